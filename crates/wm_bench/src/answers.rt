@@ -1,4 +1,4 @@
-//! What the library answers of one input, taken into the digest.
+//! Calls of the library on one input, whose answers go into the digest.
 
 use crate::digest::{Digest, Digester};
 use std::alloc::Global;
@@ -17,19 +17,19 @@ use wm_write::check::{CheckFault, check, checked_bytes};
 use wm_write::encode::encode;
 use wm_write::print::print;
 
-/// The most bytes that an input may have.
+/// The limit of an input, in bytes.
 pub const LIMIT: u64 = 1 << 32;
 
-/// How an input is handed in, and what is allowed of it.
+/// The profile, the policy and the size of pieces for an input.
 #[derive(Clone, Copy)]
 pub struct Terms {
     pub profile: Profile,
     pub policy: Policy,
-    /// The bytes of a piece.
+    /// The size of a piece, in bytes.
     pub piece: usize,
 }
 
-/// Memory was refused, or a writer failed: it ends the program.
+/// The error that ends the program: memory was refused, or a writer failed.
 fn broken() -> io::Error {
     io::Error::from(ErrorKind::OutOfMemory)
 }
@@ -49,18 +49,18 @@ fn take_verdict(verdict: Result<Summary, Refusal>, digest: &mut Digest) {
     }
 }
 
-/// Judges a binary in pieces.
+/// Validates a binary in pieces.
 pub fn judge_pieces(alloc: Global, terms: Terms, binary: &[u8], digest: &mut Digest) {
     take_verdict(judge(alloc, terms, binary), digest);
 }
 
-/// Judges a binary as one piece.
+/// Validates a binary as one piece.
 pub fn judge_whole(alloc: Global, terms: Terms, binary: &[u8], digest: &mut Digest) {
     let verdict = validate(alloc, terms.profile, LIMIT, terms.policy, &[binary]);
     take_verdict(verdict, digest);
 }
 
-/// The module that a binary in pieces spells.
+/// Loads a binary in pieces.
 pub fn load(alloc: Global, terms: Terms, binary: &[u8]) -> Result<Checked, Refusal> {
     let mut loader = Loader::new(alloc, terms.profile, LIMIT, terms.policy);
     for piece in binary.chunks(terms.piece.max(1)) {
@@ -69,7 +69,7 @@ pub fn load(alloc: Global, terms: Terms, binary: &[u8]) -> Result<Checked, Refus
     loader.finish()
 }
 
-/// Writes a module in its canonical form, through a buffer.
+/// Writes the canonical binary of a module, through a buffer.
 fn write_module(alloc: Global, module: &Module, digest: &mut Digest) -> io::Result<()> {
     let writer = BufWriter::new(alloc, Digester { digest })?;
     let mut dest = Output::new(writer);
@@ -88,7 +88,7 @@ fn write_text(alloc: Global, checked: &Checked, digest: &mut Digest) -> io::Resu
     dest.flush()
 }
 
-/// The canonical form of a binary.
+/// Loads a binary, and writes its canonical form.
 pub fn convert(alloc: Global, terms: Terms, binary: &[u8], digest: &mut Digest) -> io::Result<()> {
     match load(alloc, terms, binary) {
         Ok(checked) => write_module(alloc, checked.module(), digest),
@@ -99,7 +99,7 @@ pub fn convert(alloc: Global, terms: Terms, binary: &[u8], digest: &mut Digest) 
     }
 }
 
-/// The text of a binary.
+/// Loads a binary, and writes its text.
 pub fn show(alloc: Global, terms: Terms, binary: &[u8], digest: &mut Digest) -> io::Result<()> {
     match load(alloc, terms, binary) {
         Ok(checked) => write_text(alloc, &checked, digest),
@@ -124,7 +124,7 @@ fn take_fault(fault: &CheckFault, digest: &mut Digest) {
     }
 }
 
-/// The canonical form of the module that a text writes, as `wmod build` makes it.
+/// Makes the canonical binary of the module that a text writes, as `wmod build` does.
 pub fn build(alloc: Global, terms: Terms, text: &[u8], digest: &mut Digest) {
     match read_text(alloc, terms.profile, Spellings::Standard, text) {
         Err(refusal) => take_text_refusal(&refusal, digest),
@@ -135,7 +135,7 @@ pub fn build(alloc: Global, terms: Terms, text: &[u8], digest: &mut Digest) {
     }
 }
 
-/// The same by the calls for a module that is held on to.
+/// `build` with `check`, which keeps the module.
 pub fn build_checked(
     alloc: Global,
     terms: Terms,

@@ -1,4 +1,4 @@
-//! Modules of shapes that cost a reader more than usual.
+//! Modules whose shapes cost a reader more than usual.
 
 use crate::binary::Binary;
 use crate::random::Random;
@@ -12,22 +12,22 @@ const LOCAL_GET: u8 = 0x20;
 
 const LOCAL_SET: u8 = 0x21;
 
-/// What a module has much of.
+/// The content that a module mostly has.
 #[derive(Clone, Copy)]
 pub enum Shape {
     /// Indices of two bytes in an element segment.
     Elements,
     /// Globals whose initialisers have numbers of several bytes.
     Globals,
-    /// Labels of two bytes in tables of branches.
+    /// Labels of two bytes in `br_table` instructions.
     Labels,
-    /// Locals, in few runs, most with an index of two bytes.
+    /// Locals in few runs, most with an index of two bytes.
     Locals,
-    /// Exports whose long names share a front.
+    /// Exports whose long names share a prefix.
     Exports,
     /// Function types, and imports of functions of them.
     Types,
-    /// Blocks in one another.
+    /// Nested blocks.
     Blocks,
 }
 
@@ -45,13 +45,13 @@ fn below(random: &mut Random, end: u32) -> u32 {
     if end == 0 { 0 } else { random.number() % end }
 }
 
-/// The section of types: one, of no parameters and no result.
+/// Appends a type section with one type, of no parameters and no result.
 fn put_type(binary: &mut Binary) -> Result<(), AllocError> {
     binary.raw(&[1, 0x60, 0, 0])?;
     binary.section(1)
 }
 
-/// The section of so many functions of the first type.
+/// Appends a function section of `count` functions of the first type.
 fn put_functions(binary: &mut Binary, count: u32) -> Result<(), AllocError> {
     binary.number(count)?;
     for _ in 0..count {
@@ -60,7 +60,7 @@ fn put_functions(binary: &mut Binary, count: u32) -> Result<(), AllocError> {
     binary.section(3)
 }
 
-/// The section of so many bodies that do nothing.
+/// Appends a code section of `count` empty bodies.
 fn put_bodies(binary: &mut Binary, count: u32) -> Result<(), AllocError> {
     binary.number(count)?;
     for _ in 0..count {
@@ -88,7 +88,7 @@ fn make_globals(binary: &mut Binary, random: &mut Random, size: u32) -> Result<(
     binary.number(size / 4)?;
     for _ in 0..size / 4 {
         binary.raw(&[I32, 0, 0x41])?;
-        // up to five bytes, of which the last has no sign
+        // Numbers of one to five bytes, none of them negative.
         let bits = below(random, 32);
         let number = random.number().wrapping_shr(bits);
         binary.constant(number)?;
@@ -200,7 +200,7 @@ fn make_blocks(binary: &mut Binary, random: &mut Random, size: u32) -> Result<()
     binary.one_body(&[])
 }
 
-/// A valid module of a shape, in place of what was made before. It grows as `size` does.
+/// Makes a valid module of a shape. It replaces the module in `binary`, and its length grows with `size`.
 pub fn make(
     binary: &mut Binary,
     shape: Shape,

@@ -1,10 +1,10 @@
-//! A module in bytes, section by section.
+//! Builds a module in the binary format, section by section.
 
 use std::alloc::{AllocError, Global};
 
 const HEADER: &[u8] = &[0, 0x61, 0x73, 0x6d, 1, 0, 0, 0];
 
-/// Appends a number in as few bytes as it has (section 5.2.2).
+/// Appends an unsigned number in the fewest bytes. Core spec 5.2.2.
 fn put_number(bytes: &mut Vec<u8>, number: u32) -> Result<(), AllocError> {
     let mut left = number;
     for _ in 0..4 {
@@ -18,7 +18,7 @@ fn put_number(bytes: &mut Vec<u8>, number: u32) -> Result<(), AllocError> {
     Ok(())
 }
 
-/// The bytes of a module, and the contents of the section at hand.
+/// The bytes of a module, and the contents of the open section.
 #[derive(Drop)]
 pub struct Binary {
     pub bytes: Vec<u8>,
@@ -33,7 +33,7 @@ impl Binary {
         }
     }
 
-    /// Begins a module anew.
+    /// Starts a new module.
     pub fn clear(&mut self) -> Result<(), AllocError> {
         self.bytes.clear();
         self.contents.clear();
@@ -44,9 +44,9 @@ impl Binary {
         put_number(&mut self.contents, number)
     }
 
-    /// Appends a constant that is not negative, in its low 30 bits.
+    /// Appends a constant that is not negative, from the low 30 bits of `number`.
     pub fn constant(&mut self, number: u32) -> Result<(), AllocError> {
-        // a last byte of 64 and more would make it negative
+        // A last byte of 64 or more would make the constant negative, so it is halved.
         let high = number & 0x3fff_ffff;
         for shift in [7u32, 14, 21, 28] {
             if high.wrapping_shr(shift) == 0 && high.wrapping_shr(shift.wrapping_sub(1)) & 1 == 1 {
@@ -60,7 +60,7 @@ impl Binary {
         self.contents.extend_from_slice(bytes)
     }
 
-    /// Ends the section at hand.
+    /// Ends the open section, which gets this id.
     pub fn section(&mut self, id: u8) -> Result<(), AllocError> {
         self.bytes.push(id)?;
         let size = u32::try_from(self.contents.len()).unwrap_or(u32::MAX);
@@ -70,7 +70,7 @@ impl Binary {
         Ok(())
     }
 
-    /// Ends a code section that has the contents at hand as its one entry, which declares these locals.
+    /// Ends the open section as a code section of one entry. The contents become its body, and it declares these locals.
     pub fn one_body(&mut self, locals: &[(u32, u8)]) -> Result<(), AllocError> {
         let mut body = std::mem::replace(&mut self.contents, Vec::new(*self.bytes.allocator()));
         self.number(u32::try_from(locals.len()).unwrap_or(0))?;

@@ -1,19 +1,19 @@
-//! One number for all answers.
+//! A digest of all answers.
 
 use std::io;
 use std::io::Write;
 use wm_decode::Refusal;
 use wm_rules::Summary;
 
-/// A digest of bytes and numbers in their order. How the bytes are cut does not show in it.
+/// A 64-bit digest of bytes and numbers in their order. It does not depend on how the bytes are cut.
 #[derive(Clone, Copy, Drop)]
 pub struct Digest {
     state: u64,
-    /// The bytes that make no word yet, the first one lowest.
+    /// The bytes that do not fill a word yet, the first one lowest.
     part: u64,
-    /// How many bits those are.
+    /// The number of bits in `part`.
     bits: u32,
-    /// How many refusals were taken.
+    /// The number of refusals.
     pub refused: u64,
 }
 
@@ -54,7 +54,7 @@ impl Digest {
         }
     }
 
-    /// Takes bytes behind those so far.
+    /// Appends bytes to the input.
     pub fn bytes(&mut self, bytes: &[u8]) {
         for chunk in bytes.chunks(8) {
             match chunk {
@@ -93,7 +93,7 @@ impl Digest {
         }
     }
 
-    /// The digest of all that was taken.
+    /// Returns the digest of the input up to here.
     pub fn value(&self) -> u64 {
         let Digest { part, bits, .. } = *self;
         let mut last = *self;
@@ -103,7 +103,7 @@ impl Digest {
     }
 }
 
-/// A writer that keeps nothing but the digest of what it is given.
+/// A writer that appends all bytes to a digest.
 #[derive(Drop)]
 pub struct Digester<'a> {
     pub digest: &'a mut Digest,

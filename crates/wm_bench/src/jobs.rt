@@ -1,4 +1,4 @@
-//! The jobs: what a user of the library waits for, on many inputs of one kind.
+//! The jobs: calls that a user of the library waits for, on many inputs of one kind.
 
 use crate::answers::{Terms, build, build_checked, convert, judge_pieces, judge_whole, load, show};
 use crate::awkward::{SHAPES, make};
@@ -13,27 +13,27 @@ use wm_rules::Policy;
 use wm_syntax::profile::Profile;
 use wm_write::in_memory::printed;
 
-/// The sizes of pieces, by turns.
+/// The sizes of pieces in bytes, used in turn.
 const PIECES: [usize; 4] = [4096, 65_536, 16_384, 32_768];
 
-/// A module of fewer bytes is small.
+/// A module of fewer bytes counts as small.
 const SMALL: usize = 8192;
 
 /// A job.
 #[derive(Clone, Copy, PartialEq, Eq)]
 pub enum Job {
-    /// Large modules are judged in pieces. One in eight has a wrong byte.
+    /// Validates large modules in pieces. About one in eight has a byte overwritten.
     Check,
-    /// Small modules are judged, each by a validator of its own.
+    /// Validates small modules, each by a validator of its own.
     Small,
-    /// Modules are written in their canonical form.
+    /// Loads modules, and writes their canonical binaries.
     Canon,
-    /// Modules are written as text.
+    /// Loads modules, and writes their texts.
     Show,
-    /// Texts are read, and the modules are written in their canonical form.
+    /// Reads texts, and writes the canonical binaries of their modules.
     Build,
-    /// Modules of awkward shapes are judged, some in pieces of one byte and some under a policy; and some are
-    /// written as text, which is read again.
+    /// Validates modules of awkward shapes, some in pieces of one byte and some under a policy. Some are printed, and
+    /// their text is read again.
     Awkward,
 }
 
@@ -46,7 +46,7 @@ pub const JOBS: [Job; 6] = [
     Job::Awkward,
 ];
 
-/// What a job needs, and what came of it.
+/// The state of a job: its random numbers, its current input, and the digest of its answers.
 #[derive(Drop)]
 pub struct Bench {
     pub alloc: Global,
@@ -73,7 +73,7 @@ impl Bench {
         }
     }
 
-    /// Sets some byte to another.
+    /// Overwrites a random byte of the input.
     fn damage(&mut self) {
         let place = self.random.below(self.made.len());
         let byte = self.random.byte();
@@ -117,7 +117,7 @@ impl Bench {
         }
     }
 
-    /// One template's turn.
+    /// Does a job on one template, if the job is for modules of its size.
     fn step(&mut self, job: Job, template: &mut Template, turn: usize) -> io::Result<()> {
         let is_small = template.bytes.len() < SMALL;
         match job {
@@ -147,7 +147,7 @@ impl Bench {
         Ok(())
     }
 
-    /// The text of a module, read and built.
+    /// Loads a module, prints it, and builds its text.
     fn turn_around(&mut self, terms: Terms, binary: &[u8]) -> io::Result<()> {
         match load(self.alloc, terms, binary) {
             Err(refusal) => self.digest.refusal(&refusal),
@@ -189,7 +189,7 @@ impl Bench {
         Ok(())
     }
 
-    /// Does a job, so many times over.
+    /// Does a job `rounds` times.
     pub fn run(&mut self, job: Job, stock: &mut Vec<Template>, rounds: usize) -> io::Result<()> {
         match job {
             Job::Awkward => self.awkward(rounds, 20_000),

@@ -1,8 +1,8 @@
-//! Times are taken of this program: `wm_bench JOB SEED ROUNDS [FILE]` does a job on inputs that the seed
-//! determines, and prints a digest of all answers. FILE, or standard input, has the stock of modules that
-//! inputs are made of; the job `awkward` reads none. `all` does each job.
+//! The benchmark: `wm_bench JOB SEED ROUNDS [FILE]` does a job on inputs that the seed determines, and prints a digest
+//! of all answers. FILE, or standard input, has the stock of modules that inputs are made of. The job `awkward` reads
+//! none. `all` does each job.
 //!
-//! This is no part of `wmod`, and no function has a clause. `bench/workloads.txt` has the words.
+//! This is no part of `wmod`, and no function has a contract. `bench/workloads.txt` has the command lines.
 #![tactic(auto)]
 
 mod answers;

@@ -1,6 +1,6 @@
-//! Numbers that a seed determines.
+//! Pseudo-random numbers.
 
-/// A sequence of numbers, the same for the same seed. It is SplitMix64 of Steele, Lea and Flood (2014).
+/// A sequence of numbers that the seed determines: SplitMix64 of Steele, Lea and Flood (2014).
 #[derive(Clone, Copy)]
 pub struct Random {
     state: u64,
@@ -18,13 +18,13 @@ impl Random {
         mixed ^ (mixed >> 31)
     }
 
-    /// A number below `end`, or 0 where that is 0.
+    /// Returns a number below `end`, or 0 if `end` is 0.
     pub fn below(&mut self, end: usize) -> usize {
         let word = self.word() as usize;
         if end == 0 { 0 } else { word % end }
     }
 
-    /// A number of 32 bits.
+    /// Returns a number of 32 bits.
     pub fn number(&mut self) -> u32 {
         (self.word() & 0xffff_ffff) as u32
     }

@@ -1,37 +1,37 @@
-//! Modules that compilers made, and others of the same kind and size that are made of them.
+//! Modules made by compilers, and the similar modules made from them.
 
 use crate::random::Random;
 use std::alloc::{AllocError, Global};
 use wm_syntax::profile::Profile;
 
-/// Where one entry of a code section lies in the bytes of its module, and where it stands among the entries.
+/// A code entry: its index in the code section, and its offsets in the bytes of the module or text.
 #[derive(Clone, Copy)]
 pub struct Entry {
     pub place: usize,
     pub start: usize,
     pub end: usize,
-    /// The end of the entries of its type, in the list of all, which is in the order of types.
+    /// The end of the entries of its type in the list of all entries, which is sorted by type.
     pub class_end: usize,
 }
 
-/// A module from which others are made: entries of functions of one type change their places, and bytes
-/// change that may be any of some.
+/// A module from which similar ones are made: code entries of one type are shuffled, and some constants and letters
+/// change.
 #[derive(Drop)]
 pub struct Template {
     pub profile: Profile,
     pub bytes: Vec<u8>,
     pub entries: Vec<Entry>,
-    /// Which entry now stands where each stood, by the list's order.
+    /// For each entry of the list, the entry that now takes its place.
     shuffled: Vec<usize>,
-    /// Which entry stood at each place of the code section, and which one now stands there.
+    /// For each index in the code section, the entry that was there and the entry that is there now.
     order: Vec<(usize, usize)>,
-    /// Where constants of one byte lie.
+    /// The offsets of constants of one byte.
     constants: Vec<usize>,
-    /// Where letters of exported names lie, or of comments.
+    /// The offsets of letters in exported names, or in comments.
     letters: Vec<usize>,
 }
 
-/// The bytes from one place to another, none where these are no such places.
+/// Returns the bytes from `start` to `end`, or none if they are out of range.
 fn cut(bytes: &[u8], start: usize, end: usize) -> &[u8] {
     if start <= end && end <= bytes.len() {
         &bytes[start..end]
@@ -72,7 +72,7 @@ impl Template {
         })
     }
 
-    /// Changes one constant in 64, and each letter.
+    /// Changes about one constant in 64, and each letter.
     fn renew_bytes(&mut self, random: &mut Random) {
         for _ in 0..self.constants.len() / 64 + 1 {
             let turn = random.below(self.constants.len());
@@ -95,7 +95,7 @@ impl Template {
         }
     }
 
-    /// Finds which entry stands at each place of the code section.
+    /// Computes `order` from `shuffled`.
     fn arrange(&mut self) {
         for (index, entry) in self.entries.iter().enumerate() {
             let now = self.shuffled.get(index).copied().unwrap_or(index);
@@ -105,7 +105,7 @@ impl Template {
         }
     }
 
-    /// Another of the kind, in place of what `made` had.
+    /// Makes another module of the kind. It replaces the contents of `made`.
     pub fn make(&mut self, random: &mut Random, made: &mut Vec<u8>) -> Result<(), AllocError> {
         self.renew_bytes(random);
         self.shuffle(random);
@@ -123,7 +123,7 @@ impl Template {
     }
 }
 
-/// Numbers of four bytes, lowest byte first.
+/// A reader of numbers of four bytes, lowest byte first.
 #[derive(Drop)]
 struct Numbers<'a> {
     rest: &'a [u8],
@@ -172,7 +172,7 @@ impl Numbers<'_> {
         Ok(places)
     }
 
-    /// The next template: five numbers, the lists that they count, and the module.
+    /// Reads the next template: five numbers, the lists that they count, and the module.
     fn template(&mut self, alloc: Global) -> Result<Option<Template>, AllocError> {
         let Some(profile) = self.next() else {
             return Ok(None);
@@ -197,7 +197,7 @@ impl Numbers<'_> {
     }
 }
 
-/// The templates that stand in these bytes one after another.
+/// Reads templates one after another.
 pub fn read_stock(alloc: Global, bytes: &[u8]) -> Result<Vec<Template>, AllocError> {
     let mut numbers = Numbers { rest: bytes };
     let mut stock = Vec::new(alloc);

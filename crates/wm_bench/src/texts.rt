@@ -1,4 +1,4 @@
-//! Texts of the modules of a stock, from which others are made as modules are.
+//! Templates of texts: the printed modules of a stock, with comments.
 
 use crate::answers::{Terms, load};
 use crate::stock::{Entry, Template};
@@ -7,19 +7,19 @@ use std::io;
 use std::io::ErrorKind;
 use wm_write::in_memory::printed;
 
-/// What stands in each function; the letters in front are others in each text.
+/// The comment in each function. The letters of the first one differ from text to text.
 const COMMENT: &[u8] = b"    ;; aaaaaaaa, as the compiler made it (; not by hand ;)\n";
 
 const LETTERS: usize = 8;
 
 const LETTERS_AT: usize = 7;
 
-/// What begins a function that the module has, and what ends it.
+/// How the first line of a defined function begins. `END` is its last line.
 const FUNCTION: &[u8] = b"  (func $f";
 
 const END: &[u8] = b"  )";
 
-/// A text with a comment in each function, and where the lines of each body lie.
+/// A text with a comment in each function, and the offsets of each body.
 #[derive(Drop)]
 struct Text {
     text: Vec<u8>,
@@ -29,7 +29,7 @@ struct Text {
 }
 
 impl Text {
-    /// Remembers where the letters of the first comment lie.
+    /// Notes the offsets of the letters of the first comment.
     fn mark(&mut self) -> io::Result<()> {
         if self.letters.is_empty() {
             for i in 0..LETTERS {
@@ -55,7 +55,7 @@ impl Text {
     }
 }
 
-/// The bodies of a printed text.
+/// Adds comments to a printed text, and finds its bodies.
 fn commented(alloc: Global, text: &[u8]) -> io::Result<Text> {
     let mut made = Text {
         text: Vec::new(alloc),
@@ -69,7 +69,7 @@ fn commented(alloc: Global, text: &[u8]) -> io::Result<Text> {
     Ok(made)
 }
 
-/// The template of a module's text.
+/// Returns the template of a module's text.
 pub fn text_of(alloc: Global, template: &Template, terms: Terms) -> io::Result<Template> {
     let Ok(checked) = load(alloc, terms, &template.bytes) else {
         return Err(io::Error::from(ErrorKind::InvalidData));
