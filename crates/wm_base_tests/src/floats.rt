@@ -1,4 +1,4 @@
-//! Rows of atoms: a width, an atom, and behind ` = ` the bits that it writes, or `none`.
+//! Tests of float literals. A row has a width, an atom, ` = `, and the bits that the atom writes, or `none`.
 
 use crate::scripts::{Scripted, play, shown, unknown, word_of};
 use std::alloc::Global;
@@ -6,11 +6,11 @@ use std::process::Abort;
 use wm_floats::atoms::{float_of, has_form};
 use wm_syntax::instructions::FloatType;
 
-/// A hundred zeros, for which `{z}` stands in a row.
+/// A hundred zeros, written `{z}` in a row.
 const ZEROS: &str = "00000000000000000000000000000000000000000000000000\
     00000000000000000000000000000000000000000000000000";
 
-// Halfway points between two floats, with and without a digit far behind; the smallest floats, the largest.
+// Halfway points between two floats, with and without a digit far after the point; the smallest and largest floats.
 const DECIMALS: &str = "f32 0 = 0
 f32 -0 = 80000000
 f32 1 = 3F800000
@@ -165,7 +165,7 @@ form infx = false";
 
 const SCRIPTS: [&str; 4] = [DECIMALS, HEXADECIMALS, OTHERS, FORMS];
 
-/// The calls on an atom.
+/// Calls on an atom.
 #[derive(Drop)]
 struct FloatAtoms;
 

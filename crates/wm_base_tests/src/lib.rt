@@ -1,6 +1,6 @@
-//! Tests of `wm_syntax`, `wm_floats`, `wm_stacks` and `wm_typing`, over what they hand out. A crate with
-//! tests is proved twice, with them and without; so they stand here, above the crates that they try, and
-//! apart from those of `wm_tests`, which begin only where `wm_write` is proved.
+//! Tests of the public items of `wm_syntax`, `wm_floats`, `wm_stacks` and `wm_typing`. A crate with tests is proved
+//! twice, with and without them. To save that, the tests are in a crate of their own. They are apart from `wm_tests`,
+//! which can start only after `wm_write` is proved.
 #![tactic(auto)]
 
 #[cfg(test)]

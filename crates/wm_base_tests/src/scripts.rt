@@ -1,17 +1,17 @@
-//! Scripts for tests: a line is a row, with a call and, behind ` = `, its answer as Debug writes it.
+//! Scripts for tests. Each line has a call, ` = `, and the answer as `Debug` writes it.
 
 use std::alloc::Global;
 use std::fmt::Debug;
 use std::process::Abort;
 use wm_syntax::types::ValType;
 
-/// What a script makes calls on.
+/// A value that a script makes calls on.
 pub(crate) trait Scripted {
-    /// Makes this call, and gives its answer as text.
+    /// Makes a call, and returns its answer as text.
     fn answer<A: Abort>(&mut self, rt: &A, alloc: Global, call: &str) -> String;
 }
 
-/// Makes the calls of a script in turn.
+/// Makes the calls of a script in turn, and checks each answer.
 pub(crate) fn play<S: Scripted>(rt: &impl Abort, alloc: Global, called: &mut S, script: &str) {
     assert!(rt; !script.is_empty(), "an empty script");
     for line in script.lines() {
@@ -20,8 +20,8 @@ pub(crate) fn play<S: Scripted>(rt: &impl Abort, alloc: Global, called: &mut S, 
     }
 }
 
-/// The same, of lines with several calls that have one answer: `3 times push I32, close = Ok(())` makes
-/// both calls three times in turn.
+/// `play` for lines that may have several calls with one answer. `3 times push I32, close = Ok(())` makes both calls
+/// three times in turn.
 pub(crate) fn play_each<S: Scripted>(rt: &impl Abort, alloc: Global, called: &mut S, script: &str) {
     assert!(rt; !script.is_empty(), "an empty script");
     for line in script.lines() {
@@ -37,7 +37,7 @@ fn play_line<S: Scripted>(rt: &impl Abort, alloc: Global, called: &mut S, line: 
     }
 }
 
-// How often the calls of a line are made, and which.
+// Returns how often the calls of a line are made, and these calls.
 fn repeated<'a>(rt: &impl Abort, calls: &'a str) -> (u32, &'a str) {
     let Some((times, calls)) = calls.split_once(" times ") else {
         return (1, calls);
@@ -70,17 +70,17 @@ fn play_call<S: Scripted>(
     assert!(rt; found.as_str() == wanted, "{call} = {wanted}: {found}");
 }
 
-/// An answer, as Debug writes it.
+/// Returns an answer as `Debug` writes it.
 pub(crate) fn shown<T: Debug + Drop>(rt: &impl Abort, alloc: Global, answer: T) -> String {
     format!(in alloc; "{answer:?}").expect(rt, "memory")
 }
 
-/// Ends the test at a word that a script cannot have.
+/// Fails the test at an unknown word of a script.
 pub(crate) fn unknown(rt: &impl Abort, word: &str) -> ! {
     panic!(rt; "unknown in a script: {word:?}")
 }
 
-/// The first word of a text, and what follows it.
+/// Splits a text after its first word.
 pub(crate) fn word_of(text: &str) -> (&str, &str) {
     match text.split_once(' ') {
         Some(parts) => parts,
@@ -88,7 +88,7 @@ pub(crate) fn word_of(text: &str) -> (&str, &str) {
     }
 }
 
-/// What stands before a mark, and what stands behind it.
+/// Splits a text at a mark. Fails the test if the mark is missing.
 pub(crate) fn parts_of<'a>(rt: &impl Abort, text: &'a str, mark: &str) -> (&'a str, &'a str) {
     match text.split_once(mark) {
         Some(parts) => parts,

@@ -1,4 +1,4 @@
-//! The two stacks of a body, and a table of its locals.
+//! Tests of the two stacks of a body, and of the table of its locals.
 
 use crate::scripts::{Scripted, number_of, play_each, shown, type_of, unknown, word_of};
 use std::alloc::Global;
@@ -45,7 +45,7 @@ impl Scripted for RunTable {
     }
 }
 
-// `2 I32`
+// Adds a run of locals such as `2 I32`.
 fn added(rt: &impl Abort, alloc: Global, table: &mut RunTable, with: &str) -> String {
     let (count, ty) = word_of(with);
     let count = number_of(rt, count);
@@ -69,7 +69,7 @@ impl Scripted for Stacks {
     }
 }
 
-// `Block I64`
+// Opens a frame such as `Block I64`.
 fn opened(rt: &impl Abort, alloc: Global, stacks: &mut Stacks, with: &str) -> String {
     let (operands, frames) = stacks.heights();
     assert!(rt; operands < 1000 && frames < 1000);
@@ -88,7 +88,7 @@ fn result_of(rt: &impl Abort, word: &str) -> Option<ValType> {
     Some(type_of(rt, word))
 }
 
-// The calls for which a frame has to be open.
+// Makes a call that needs an open frame.
 fn moved(rt: &impl Abort, alloc: Global, stacks: &mut Stacks, call: &str) -> String {
     let (operands, frames) = stacks.heights();
     assert!(rt; operands < 1000 && 0 < frames && frames < 1000);
@@ -120,7 +120,7 @@ fn moved(rt: &impl Abort, alloc: Global, stacks: &mut Stacks, call: &str) -> Str
     }
 }
 
-// `I32 I64`
+// Reads types such as `I32 I64`.
 fn types_of(rt: &impl Abort, alloc: Global, words: &str) -> Vec<ValType> {
     let mut types = Vec::new(alloc);
     for word in words.split_whitespace() {
@@ -147,7 +147,7 @@ find 0 = Found { ty: None, probes: 0 }",
     );
 }
 
-// Makes the calls of a script on two empty stacks.
+// Plays a script on two empty stacks.
 fn played(rt: &impl Abort, alloc: Global, script: &str) {
     let mut stacks = Stacks::new(alloc);
     play_each(rt, alloc, &mut stacks, script);
@@ -202,7 +202,7 @@ moves = 1",
     );
 }
 
-// A width that was taken stands where the next operand comes, below and above the 64th.
+// The bit of a popped float's width stays where the next operand goes, below and above the 64th.
 #[test]
 fn tells_floats_apart(rt: HostRuntime) {
     played(
@@ -230,8 +230,8 @@ heights = (0, 1)",
     );
 }
 
-// A look at one word and one bit for each operand: not across the edge of a word, nor above the 64th
-// operand.
+// The fast paths read one word, and one bit for each operand. They do not apply across the edge of a word, or above the
+// 64th operand.
 #[test]
 fn takes_floats_at_once(rt: HostRuntime) {
     played(
@@ -279,7 +279,7 @@ heights = (65, 1)",
     );
 }
 
-// Where a word is full, and above the 64th operand, nothing is put at once.
+// The fast path of a push does not apply if a word is full, or above the 64th operand.
 #[test]
 fn puts_floats_at_once(rt: HostRuntime) {
     played(
@@ -308,7 +308,7 @@ heights = (31, 1)",
     );
 }
 
-// The 32 lowest operands stand in one word, the next one in another.
+// The 32 lowest operands share a word; the next one is in another.
 #[test]
 fn takes_across_the_edge_of_a_word(rt: HostRuntime) {
     played(
@@ -355,7 +355,7 @@ moves = 0",
     );
 }
 
-/// The same text however the kinds stand in words, and whatever is left in places that mean nothing.
+/// The `Debug` text does not depend on how kinds are packed into words, or on bits that are not in use.
 #[test]
 fn shows_kinds_and_floor(rt: HostRuntime) {
     let mut stacks = Stacks::new(rt.alloc());
@@ -382,14 +382,14 @@ fn looks(rt: &impl Abort, stacks: &Stacks, heights: (usize, usize), moves: u64) 
     assert!(rt; stacks.moves() == moves);
 }
 
-// An f64 more, which takes no memory.
+// Pushes an f64, which takes no memory.
 fn push_inline(rt: &impl Abort, stacks: &mut Stacks) -> Result<(), Why> {
     let (operands, frames) = stacks.heights();
     assert!(rt; operands < 64 && frames == 1);
     stacks.push(Entry::F64)
 }
 
-// The 65th operand. Where it is refused, the others stay as they are.
+// Pushes the 65th operand. If memory is refused, the others stay as they are.
 fn push_further(rt: &impl Abort, stacks: &mut Stacks) {
     let (operands, frames) = stacks.heights();
     assert!(rt; operands == 64 && frames == 1);
@@ -402,7 +402,7 @@ fn push_further(rt: &impl Abort, stacks: &mut Stacks) {
     assert!(rt; stacks.take_any() == Ok(Entry::F64));
 }
 
-// Sixty-four operands need no growth. Run with one that is refused, as below.
+// Sixty-four operands need no growth. This is also run with a refused growth, as below.
 #[test]
 fn needs_no_growth_below_the_65th_operand(rt: HostRuntime) -> Result<(), Fail> {
     let mut stacks = Stacks::new(rt.alloc());
@@ -414,7 +414,7 @@ fn needs_no_growth_below_the_65th_operand(rt: HostRuntime) -> Result<(), Fail> {
     Ok(())
 }
 
-// A refusal changes nothing.
+// Opens a frame. If memory is refused, nothing changes.
 fn open_more(rt: &impl Abort, stacks: &mut Stacks) {
     let (operands, frames) = stacks.heights();
     assert!(rt; operands < 1000 && frames < 1000);
@@ -425,7 +425,7 @@ fn open_more(rt: &impl Abort, stacks: &mut Stacks) {
     }
 }
 
-// A refusal changes nothing.
+// Pushes an operand. If memory is refused, nothing changes.
 fn push_more(rt: &impl Abort, stacks: &mut Stacks) {
     let (operands, frames) = stacks.heights();
     assert!(rt; operands < 1000 && frames < 1000 && frames >= 59);
@@ -441,8 +441,8 @@ fn push_more(rt: &impl Abort, stacks: &mut Stacks) {
     }
 }
 
-// Where no growth is refused each push and each open succeeds. Run with one that is, by
-// `rt try --test --fail-alloc N`: it answers `Memory` and changes nothing, and the next one succeeds.
+// Each push and each open succeeds if no growth is refused. `rt try --test --fail-alloc N` refuses one: that call
+// returns `Memory` and changes nothing, and the next one succeeds.
 #[test]
 fn a_refused_growth_changes_nothing(rt: HostRuntime) {
     let mut stacks = Stacks::new(rt.alloc());

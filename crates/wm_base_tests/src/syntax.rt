@@ -1,4 +1,4 @@
-//! The words that every other crate speaks.
+//! Tests of `wm_syntax`.
 
 use wm_syntax::modules::Module;
 use wm_syntax::names::is_name;

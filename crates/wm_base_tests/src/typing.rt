@@ -1,4 +1,4 @@
-//! Bodies and what they count.
+//! Tests of the typing of bodies, and of their statistics.
 
 ghost use Rattle.std.specs.Prelude.{◌<◌, ◌^◌, length};
 
@@ -17,8 +17,7 @@ use wm_typing::stats::BodyStats;
 mod body_checker;
 mod ops;
 
-// Checks a body, in a module with a memory and a constant global, whose function 0 takes three i32 and
-// gives nothing.
+// Checks a body in a module with a memory and a constant global. Its function 0 has three i32 parameters and no result.
 fn check(
     alloc: Global,
     params: &[ValType],
@@ -39,8 +38,7 @@ fn check(
     check_body(alloc, &context, 0, runs, ops)
 }
 
-/// The check of a function: `i32 -> i32 | 2*i64: local.get 0, end` has a parameter, a result and two
-/// declared locals.
+/// Checks a function. `i32 -> i32 | 2*i64: local.get 0, end` has a parameter, a result and two declared locals.
 #[derive(Drop)]
 struct Checks;
 
@@ -61,7 +59,7 @@ fn check_under(rt: &impl Abort, alloc: Global, head: &str, ops: &[Op]) -> Result
     check(alloc, &params, given_of(rt, given.trim()), &runs, ops)
 }
 
-// `2*i32 1*i64`
+// Reads runs of locals such as `2*i32 1*i64`.
 fn runs_of(rt: &impl Abort, alloc: Global, text: &str) -> Vec<(u32, ValType)> {
     let mut runs = Vec::new(alloc);
     for run in text.split_whitespace() {
@@ -75,7 +73,7 @@ fn run_of(rt: &impl Abort, text: &str) -> (u32, ValType) {
     (number_of(rt, count), type_of(rt, ty))
 }
 
-// Unknown operands, at the floor and above it, then parameters, locals and ifs, and then floats.
+// Rows with unknown operands, at the floor and above it; then with parameters, locals and ifs; then with floats.
 #[test]
 fn types_whole_bodies(rt: HostRuntime) {
     play(
@@ -99,7 +97,7 @@ f64 -> i32 |: local.get 0, i64.trunc_f64_u, i32.wrap_i64, end = Ok(BodyStats { m
     );
 }
 
-/// Checks these ops without the last, and then with it, in a function that gives an i32.
+/// Checks ops without the last one, and then with it, in a function with an i32 result.
 #[derive(Drop)]
 struct LastOps;
 
@@ -117,9 +115,9 @@ fn before_and_after(rt: &impl Abort, alloc: Global, ops: &[Op]) -> String {
     shown(rt, alloc, (before, after))
 }
 
-// Labels of different types, of no and one result and of one each, stand in the fifth row and the sixth.
-// What is named comes before the operands: indices, then what may not be set or aligned so.
-// Then one float where another is wanted.
+// In rows five and six, the labels of a `br_table` differ: in the number of results, and in their type.
+// Errors of immediates come before errors of operands: indices, then immutable globals and alignments.
+// The last rows have one float where another is expected.
 #[test]
 fn refuses_at_the_op_that_has_no_typing(rt: HostRuntime) {
     play(

@@ -70,7 +70,7 @@ impl Binary {
         Ok(())
     }
 
-    /// Ends the open section as a code section of one entry. The contents become its body, and it declares these locals.
+    /// Ends the open section as a code section of one entry, with these locals. The contents become its body.
     pub fn one_body(&mut self, locals: &[(u32, u8)]) -> Result<(), AllocError> {
         let mut body = std::mem::replace(&mut self.contents, Vec::new(*self.bytes.allocator()));
         self.number(u32::try_from(locals.len()).unwrap_or(0))?;

@@ -1,4 +1,4 @@
-//! Tests of the shortest spellings of numbers.
+//! Tests of the shortest encodings of numbers.
 
 use crate::scripts::{Scripted, number_of, play_each, unknown, word_of};
 use crate::syntax::scripts::digits_of;
@@ -6,7 +6,7 @@ use std::alloc::Global;
 use std::process::Abort;
 use wm_syntax::chunk::{put_s32, put_s64, put_u32};
 
-/// Spells this number: the bytes that were put.
+/// Encodes a number, and returns its bytes.
 #[derive(Drop)]
 struct Spelling;
 

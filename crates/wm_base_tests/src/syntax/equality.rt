@@ -9,7 +9,7 @@ use wm_syntax::modules::body_builder::BodyBuilder;
 use wm_syntax::modules::locals::Locals;
 use wm_syntax::modules::{Function, Module};
 
-/// Whether two modules are equal, and whether they are not.
+/// Compares two modules by `==` and by `!=`.
 #[derive(Drop)]
 struct Equality;
 
@@ -22,7 +22,7 @@ impl Scripted for Equality {
     }
 }
 
-/// `empty`, or a module of one function with these locals and ops: `2*I32 1*I64: Nop`.
+/// Reads `empty`, or a module of one function with its locals and ops, such as `2*I32 1*I64: Nop`.
 fn module_of(rt: &impl Abort, alloc: Global, text: &str) -> Module {
     let mut module = Module::new(alloc);
     if text != "empty" {
@@ -60,7 +60,7 @@ fn body_of(rt: &impl Abort, alloc: Global, ops: &str) -> Body {
     builder.finish().expect(rt, "a body")
 }
 
-// An empty else makes no difference.
+// In the last row, an empty else makes no difference.
 #[test]
 fn what_is_the_same_and_what_is_not(rt: HostRuntime) {
     play_each(

@@ -12,7 +12,7 @@ use wm_syntax::io::input::Input;
 use wm_syntax::io::output::Output;
 use wm_syntax::io::{Dest, Source, put_all};
 
-// What a call answers that reads up to three bytes.
+// Reads up to three bytes, and returns the answer.
 fn given(rt: &impl Abort, alloc: Global, source: &mut impl Source) -> String {
     let mut buf = [0u8; 3];
     match source.get(&mut buf) {
@@ -24,7 +24,7 @@ fn given(rt: &impl Abort, alloc: Global, source: &mut impl Source) -> String {
     }
 }
 
-/// An error stands so in a script.
+/// How a script writes an error.
 #[derive(Debug, Drop)]
 struct Fault;
 
@@ -38,7 +38,7 @@ impl<R: Read> Scripted for Input<R> {
     }
 }
 
-// What is answered, where it is no fault.
+// Returns an answer as text; an error is `Fault`.
 fn told<T: Debug + Drop>(rt: &impl Abort, alloc: Global, answer: io::Result<T>) -> String {
     match answer {
         Ok(value) => shown(rt, alloc, value),
@@ -87,7 +87,7 @@ failed = false",
     assert!(rt; dest.into_inner().as_slice() == b"asm".as_slice());
 }
 
-/// Answers `Interrupted` to the first call, and then takes or gives nothing.
+/// Fails with `Interrupted` at the first call, and then reads or writes 0 bytes.
 #[derive(Drop)]
 struct Unwilling {
     calls: u8,
@@ -159,7 +159,7 @@ failed = true",
     );
 }
 
-/// Takes one byte a call.
+/// A writer that takes one byte in each call.
 #[derive(Drop)]
 struct Slow {
     taken: Vec<u8>,

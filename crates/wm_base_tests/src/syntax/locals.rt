@@ -24,7 +24,7 @@ impl Scripted for Locals {
     }
 }
 
-// `2 I32`
+// Adds a run of locals such as `2 I32`.
 fn added(rt: &impl Abort, alloc: Global, locals: &mut Locals, with: &str) -> String {
     let (count, ty) = word_of(with);
     let count = number_of(rt, count);
@@ -65,7 +65,7 @@ runs = 1",
     );
 }
 
-// A local more, of another type than the last. A refusal changes nothing.
+// Adds a local of another type than the last. If memory is refused, nothing changes.
 fn add_more(rt: &impl Abort, locals: &mut Locals) {
     let runs = locals.runs();
     assert!(rt; runs < 1000);
@@ -80,8 +80,8 @@ fn add_more(rt: &impl Abort, locals: &mut Locals) {
     }
 }
 
-// Where no growth is refused each add succeeds. Run with one that is, by
-// `rt try --test --fail-alloc N`: it answers `Memory` and changes nothing, and the next one succeeds.
+// Each add succeeds if no growth is refused. `rt try --test --fail-alloc N` refuses one: that call returns `Memory` and
+// changes nothing, and the next one succeeds.
 #[test]
 fn a_refused_growth_changes_nothing(rt: HostRuntime) {
     let mut locals = Locals::new(rt.alloc());

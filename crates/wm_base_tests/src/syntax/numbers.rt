@@ -60,7 +60,7 @@ fn read_signed33(bytes: &[u8]) -> Step<i64> {
     answer
 }
 
-/// Reads these bytes by a reader of the named kind: the answer to the last of them.
+/// Reads bytes by a reader of the named kind, and returns its answer to the last byte.
 #[derive(Drop)]
 struct Numbers;
 
@@ -113,7 +113,7 @@ short_front = 0",
     );
 }
 
-// A fifth byte of 32 bits is 00 to 07 or 78 to 7F, a tenth of 64 bits is 00 or 7F.
+// The fifth byte of a 32-bit number is 00 to 07 or 78 to 7F. The tenth of a 64-bit number is 00 or 7F.
 #[test]
 fn signed_numbers(rt: HostRuntime) {
     play(

@@ -9,7 +9,7 @@ use wm_syntax::instructions::op_names::{name_of, op_named};
 use wm_syntax::instructions::opcodes::op_of;
 use wm_syntax::profile::Profile;
 
-/// The name of a byte, or what a word names under a profile.
+/// Returns the name of a byte, or what a keyword names under a profile.
 #[derive(Drop)]
 struct Names;
 
@@ -33,8 +33,8 @@ fn naming(rt: &impl Abort, alloc: Global, profile: &str, word: &str) -> String {
     shown(rt, alloc, op_named(profile, word.as_bytes()))
 }
 
-// Sign extension is of the second profile and of the fourth, floats are of the third and of the fourth. What
-// a profile has not is `Float` where it is on floats, and else nothing.
+// Profiles `Two` and `Four` have sign extension; `Three` and `Four` have floats. An instruction that a profile lacks is
+// `Float` if it is on floats, and else `None`.
 #[test]
 fn names_of_bytes_and_what_words_name(rt: HostRuntime) {
     play_each(
@@ -130,7 +130,7 @@ Three f64.reinterpret_i64 = Plain(Simple(Numeric(Convert(F64ReinterpretI64))))"#
     );
 }
 
-// Each byte that begins an instruction is found by its name.
+// The name of each byte that begins an instruction names what the byte begins.
 #[test]
 fn names_lead_back(rt: HostRuntime) {
     for byte in 0..=0xFF {

@@ -8,8 +8,7 @@ use wm_syntax::instructions::opcodes::op_of;
 use wm_syntax::instructions::{FloatType, IntType};
 use wm_syntax::types::ValType;
 
-/// What a byte begins under a profile, or the feature of a value type, or the type of what an instruction
-/// works on.
+/// Returns what a byte begins under a profile, the feature of a value type, or the value type of an operand type.
 #[derive(Drop)]
 struct Opcodes;
 
@@ -39,7 +38,7 @@ fn ty_of(rt: &impl Abort, word: &str) -> ValType {
     }
 }
 
-// Sign extension is of the second profile and of the fourth, floats are of the third and of the fourth.
+// Profiles `Two` and `Four` have sign extension; `Three` and `Four` have floats.
 #[test]
 fn first_bytes(rt: HostRuntime) {
     play_each(

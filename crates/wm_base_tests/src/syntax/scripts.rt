@@ -1,4 +1,4 @@
-//! What stands in scripts of `wm_syntax`: bytes as two hexadecimal digits each, profiles and ops.
+//! The operands in scripts of `wm_syntax`: bytes as two hexadecimal digits each, profiles and ops.
 
 use crate::scripts::{number_of, unknown};
 use std::alloc::Global;
@@ -11,7 +11,7 @@ pub(crate) fn byte_of(rt: &impl Abort, word: &str) -> u8 {
     u8::from_str_radix(word, 16).expect(rt, "a byte")
 }
 
-/// `E5 8E 26`
+/// Reads bytes such as `E5 8E 26`.
 pub(crate) fn bytes_of(rt: &impl Abort, alloc: Global, digits: &str) -> Vec<u8> {
     let mut bytes = Vec::new(alloc);
     for word in digits.split_whitespace() {
@@ -20,7 +20,7 @@ pub(crate) fn bytes_of(rt: &impl Abort, alloc: Global, digits: &str) -> Vec<u8> 
     bytes
 }
 
-/// The same text of bytes.
+/// Writes bytes as `bytes_of` reads them.
 pub(crate) fn digits_of(rt: &impl Abort, alloc: Global, bytes: &[u8]) -> String {
     let mut digits = String::new(alloc);
     for byte in bytes {
@@ -40,7 +40,7 @@ pub(crate) fn profile_of(rt: &impl Abort, word: &str) -> Profile {
     }
 }
 
-/// `Block`, or with a number `Label:3`
+/// Reads an op such as `Block`, or `Label:3` with a number.
 pub(crate) fn op_of_word(rt: &impl Abort, word: &str) -> Op {
     match word.split_once(':') {
         Some((name, number)) => numbered_op(rt, name, number_of(rt, number)),

@@ -1,4 +1,4 @@
-//! Tests of the words of refusals.
+//! Tests of the names and sentences of refusals.
 
 use crate::scripts::{Scripted, play_each, shown, unknown, word_of};
 use std::alloc::Global;
@@ -38,7 +38,7 @@ const ALL: [Why; 30] = [
     Why::Deep,
 ];
 
-/// What is printed for a refusal.
+/// Returns the printed name or sentence of a refusal.
 #[derive(Drop)]
 struct Printed;
 
@@ -64,7 +64,7 @@ fn full_stop_of(rt: &impl Abort, alloc: Global, why: Why) -> String {
     shown(rt, alloc, sentence.as_str().ends_with('.'))
 }
 
-// The refusal that Debug writes so.
+// Returns the refusal that `Debug` writes as this word.
 fn why_of(rt: &impl Abort, alloc: Global, word: &str) -> Why {
     for why in ALL {
         let name = shown(rt, alloc, why);

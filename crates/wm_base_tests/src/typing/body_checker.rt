@@ -1,4 +1,4 @@
-//! A checker of bodies, call by call.
+//! Tests of `BodyChecker`, call by call.
 
 use crate::scripts::{Scripted, number_of, play, shown, unknown, word_of};
 use crate::typing::ops::{op_of, type_of};
@@ -23,7 +23,7 @@ impl Scripted for BodyChecker {
     }
 }
 
-// A body of a function that takes and gives nothing.
+// Begins the body of a function without parameters and results.
 fn begun(rt: &impl Abort, alloc: Global, checker: &mut BodyChecker) -> String {
     let mut types = FuncTypes::new(alloc);
     types.push(&[], None).expect(rt, "memory");
@@ -32,7 +32,7 @@ fn begun(rt: &impl Abort, alloc: Global, checker: &mut BodyChecker) -> String {
     shown(rt, alloc, ())
 }
 
-// `2 i32`
+// Declares locals such as `2 i32`.
 fn declared(rt: &impl Abort, alloc: Global, checker: &mut BodyChecker, with: &str) -> String {
     let (count, ty) = word_of(with);
     let count = number_of(rt, count);

@@ -1,5 +1,5 @@
-//! Types and ops in scripts. Ops stand as in a text module, with a comma between them; a float's constant
-//! is its bits.
+//! Types and ops in scripts. Ops are written as in the text format, with commas between them. The constant of a float is
+//! its bits.
 
 use crate::scripts::{number_of, unknown, word_of};
 use std::alloc::Global;
@@ -20,7 +20,7 @@ pub(crate) fn type_of(rt: &impl Abort, word: &str) -> ValType {
     }
 }
 
-/// No type where there is no word.
+/// Reads an optional type. An empty word is none.
 pub(crate) fn given_of(rt: &impl Abort, word: &str) -> Option<ValType> {
     if word.is_empty() {
         return None;
@@ -28,7 +28,7 @@ pub(crate) fn given_of(rt: &impl Abort, word: &str) -> Option<ValType> {
     Some(type_of(rt, word))
 }
 
-/// `i32 i64`
+/// Reads types such as `i32 i64`.
 pub(crate) fn types_of(rt: &impl Abort, alloc: Global, words: &str) -> Vec<ValType> {
     let mut types = Vec::new(alloc);
     for word in words.split_whitespace() {
@@ -37,7 +37,7 @@ pub(crate) fn types_of(rt: &impl Abort, alloc: Global, words: &str) -> Vec<ValTy
     types
 }
 
-/// `block, local.get 7, end`
+/// Reads ops such as `block, local.get 7, end`.
 pub(crate) fn ops_of(rt: &impl Abort, alloc: Global, text: &str) -> Vec<Op> {
     let mut ops = Vec::new(alloc);
     for op in text.split(", ") {
@@ -46,7 +46,7 @@ pub(crate) fn ops_of(rt: &impl Abort, alloc: Global, text: &str) -> Vec<Op> {
     ops
 }
 
-/// `br_table 1`
+/// Reads an op such as `br_table 1`.
 pub(crate) fn op_of(rt: &impl Abort, text: &str) -> Op {
     let (name, with) = word_of(text);
     match op_named(Profile::Three, name.as_bytes()) {
@@ -93,7 +93,7 @@ fn int_of(rt: &impl Abort, with: &str) -> Op {
     Op::Simple(Simple::I32Const(with.parse::<i32>().expect(rt, "a number")))
 }
 
-// The exponent of the alignment, and the offset.
+// Reads the exponent of the alignment, and the offset.
 fn load_of(rt: &impl Abort, load: LoadOp, with: &str) -> Op {
     let (align, offset) = word_of(with);
     let align = number_of(rt, align);
