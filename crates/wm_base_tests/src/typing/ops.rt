@@ -1,5 +1,5 @@
-//! Types and ops in scripts. Ops are written as in the text format, with commas between them. The constant of a float is
-//! its bits.
+//! Types and ops in scripts. Ops are written as in the text format, with commas between them. A float constant is its
+//! bits.
 
 use crate::scripts::{number_of, unknown, word_of};
 use std::alloc::Global;
