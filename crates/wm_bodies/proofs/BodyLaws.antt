@@ -1,4 +1,4 @@
--- A body, piece by piece: what may still come of it is what its open blocks say.
+-- Reading a body piece by piece: the open blocks decide what may still follow.
 use Rattle.std.proofs.Common.{◌≡◌, ℕ, zero, suc, ◌<◌, ◌≤◌, ◌↔◌, List, [], ◌∷◌, ◌++◌, length, Option, Some, None, refl, sym, ap, subst, ◌∙◌, arith, append_assoc, length-append}
 use Rattle.wm_syntax.specs.declared.instructions.Op.{Op}
 use Rattle.wm_syntax.specs.declared.profile.Profile.{Profile}
@@ -75,7 +75,7 @@ module _ (use_at : Reader ℕ) (p : Profile) (sc : Scope) (use_sound : Sound use
       let size : length x.1 ≤ length k = shorter bs w k x.0 x.1 e in
       ap (λ (z : Option (List Op × List Token)). z >>= λ y. Some (piece_ops x.0 ++ y.0, y.1)) (fuel (suc (length k)) (suc (length x.1)) (after bs x.0) x.1 (omega (arith, size)) (omega arith)))
 
-  -- ---- what is read is written so
+  -- ---- the tokens write what is read
 
   -- a piece that is read, and those after it
   joins : (bs : Opened) (q : Piece) (later : List Piece) (w : List ℕ) (k left rest : List Token) → piece_at use_at p sc bs w k ≡ Some (q, left) → Still p sc (after bs q) later left rest
@@ -135,7 +135,7 @@ module _ (use_at : Reader ℕ) (p : Profile) (sc : Scope) (uses : ReadsUse use_a
   pieces_follow bs (q ∷ ps) front rest (i, (x, y, e, w, more)) f =
       subst Follow (sym (ap (λ (z : List Token). z ++ rest) e ∙ append_assoc x y rest)) (piece_follows sc bs q x (y ++ rest) w)
 
-  -- What may still come, where a word stands first: what the piece says that is read there.
+  -- The ops that may still follow, if a keyword comes first: the piece that is read there, and then the rest.
   pub record Comes (bs : Opened) (ps : List Piece) (w : List ℕ) (k rest : List Token) : Type 0 where
     pub piece : Piece
     pub later : List Piece
@@ -218,7 +218,7 @@ module _ (use_at : Reader ℕ) (p : Profile) (sc : Scope) (uses : ReadsUse use_a
   within_complete (suc n) bs names ps (close_paren ∷ k) rest lt h f = ended n bs ps (close_paren ∷ k) rest (still_end bs ps (close_paren ∷ k) rest (λ w l e. cc) h) f
   within_complete (suc n) bs names ps (string b ∷ k) rest lt h f = ended n bs ps (string b ∷ k) rest (still_end bs ps (string b ∷ k) rest (λ w l e. cc) h) f
 
-  -- what is written so is read
+  -- What tokens write is read.
   pub ops_complete : (bs : Opened) → AreNames bs → (ops : List Op) (front rest : List Token) → WritesOps p sc bs ops front → BeginsClose rest → ops_at use_at p sc bs (front ++ rest) ≡ Some (ops, rest)
   unfolding ops_at
   ops_complete bs names ops front rest (ps, e, h) f =

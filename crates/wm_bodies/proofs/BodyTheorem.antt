@@ -1,4 +1,4 @@
--- A body is read exactly where its tokens write a tree.
+-- A body is read if and only if its tokens write a tree.
 use Rattle.std.proofs.Common.{◌≡◌, ℕ, List, [], ◌∷◌, ◌++◌, Some, refl, sym, ap, subst, ◌∙◌}
 use Rattle.wm_syntax.specs.declared.instructions.Op.{Op}
 use Rattle.wm_syntax.specs.declared.profile.Profile.{Profile}
@@ -35,7 +35,8 @@ module _ (use_at : Reader ℕ) (p : Profile) (sc : Scope) (uses : ReadsUse use_a
       let t = body_flat p sc s front h g in
       (t.0, t.1, ops_complete use_at p sc uses scope [] tt t.0 front rest t.2 f)
 
--- with type uses, of a written text identifiers that are distinct in their spaces, and types of the profile
+-- With the readers of type uses. For a written text, identifiers are distinct in their spaces and types are of the
+-- profile.
 pub body_read : (p : Profile) (sc : Scope) (k rest : List Token) (ops : List Op) → ops_at (type_use_at p sc.names) p sc [] k ≡ Some (ops, rest)
     → (s : Instructions) × (front : List Token) × (k ≡ front ++ rest) × BeginsClose rest × HasOps s ops × WritesInstructions sc [] s front × HasInstructions p s
 body_read p sc k rest ops e = read_is_written (type_use_at p sc.names) p sc (call_sound p sc.names) k rest ops e
@@ -75,7 +76,7 @@ law_written p sc front more s d l knows w h =
     let b = body_written p sc (is_scope sc d l) d.types knows s front (close_paren ∷ more) w h tt in
     made_is tree_of (ops_at (type_use_at p sc.names) p sc [] (front ++ close_paren ∷ more)) b.0 (close_paren ∷ more) b.2 ∙ ap (λ (z : Instructions). Some (z, close_paren ∷ more)) (tree_is s b.0 b.1)
 
--- what tokens write is one list of instructions
+-- Tokens write at most one list of instructions.
 pub law_one : (p : Profile) (sc : Scope) (front : List Token) (s t : Instructions) → HasDistinct sc.names → AreDistinct sc.locals → KnowsTypes p sc.names → WritesInstructions sc [] s front → HasInstructions p s
     → WritesInstructions sc [] t front → HasInstructions p t → s ≡ t
 law_one p sc front s t d l knows w h v g =

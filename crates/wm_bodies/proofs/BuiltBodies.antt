@@ -121,14 +121,14 @@ takes (at outer s) (b ∷ bs) middle h g = let d = divides outer s b.may_else (m
 takes (at outer s) [] closes h g = absurd g
 takes (at outer s) (b ∷ bs) closes h g = let d = ends outer s b.may_else (map (λ c. c.may_else) bs) h in (at d.0 d.1, d.2, d.3)
 
--- where no block is open, no list is
+-- If no block is open, no list is open.
 pub whole : (p : Place) (bs : Opened) → IsOver p bs → bs ≡ [] → (s : Instructions) × (p ≡ at [] s)
 whole (labels outer s seen n) bs h e = absurd h
 whole (at [] s) bs h e = (s, refl)
 whole (at (o ∷ outer) s) [] h e = absurd (let f : ◌≡◌ {A = List Bool} (is_first o ∷ map is_first outer) [] = h in cc)
 whole (at (o ∷ outer) s) (b ∷ bs) h e = absurd (let f : ◌≡◌ {A = Opened} (b ∷ bs) [] = e in cc)
 
--- ---- as the code names these
+-- ---- in the terms of the code
 
 pub table_begin : (p : Place) (ls : List ℕ) (l : ℕ) → CanTake p (piece_ops (jump ls l)) → CanTake p (op.BrTable (length ls) ∷ [])
 table_begin p ls l c = can_front p (op.BrTable (length ls) ∷ []) (map op.Label ls ++ op.Label l ∷ []) c

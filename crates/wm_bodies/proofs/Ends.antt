@@ -1,4 +1,4 @@
--- Where the tokens of a text end, and where they cannot.
+-- A token is present where a reader gives a refusal other than `Expected`.
 use Rattle.std.proofs.Common.{◌≡◌, ◌≢◌, ℕ, suc, ◌≤◌, List, [], ◌∷◌, length, Option, Some, None, sym, ap, ◌∙◌, arith}
 use Rattle.std.specs.Prelude.{codes}
 use Rattle.wm_syntax.specs.Opcodes.{load, store}
@@ -18,7 +18,7 @@ pub nothing_left : (b : List ℕ) → length b ≡ 0 → lexed b ≡ []
 nothing_left [] e = ahead_ends [] (sym ahead_nil)
 nothing_left (c ∷ b) e = absurd (omega (arith, e))
 
--- ---- what was read stood there
+-- ---- a token is present where one was read
 
 pub atom_stands : {X : Type 0} (read : List ℕ → Option X) (k : List Token) (x : X × List Token) → atom_at read k ≡ Some x → k ≢ []
 atom_stands {X} read k x e nil = let f : ◌≡◌ {A = Option (X × List Token)} None (Some x) = sym (ap (atom_at read) nil) ∙ e in cc
@@ -26,7 +26,7 @@ atom_stands {X} read k x e nil = let f : ◌≡◌ {A = Option (X × List Token)
 pub open_stands : (k : List Token) (x : Unit {0} × List Token) → open_at k ≡ Some x → k ≢ []
 open_stands k x e nil = let f : ◌≡◌ {A = Option (Unit {0} × List Token)} None (Some x) = sym (ap open_at nil) ∙ e in cc
 
--- a key whose number is no power of two, where the usual number is one
+-- A key whose number is no power of two is present, since its default is one.
 pub align_stands : (key : List ℕ) (width n : ℕ) (k j : List Token) → key_at key width k ≡ Some (n, j) → exponent_of width ≢ None → None ≡ exponent_of n → k ≢ []
 align_stands key width n k j e some none nil =
     let same : ◌≡◌ {A = ℕ × List Token} (width, []) (n, j) = same_some (width, []) (n, j) (sym (ap (key_at key width) nil) ∙ e) in

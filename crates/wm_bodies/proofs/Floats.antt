@@ -1,4 +1,4 @@
--- Constants that are floats: what is read is written so, and what is written so is read.
+-- Float constants are read exactly as tokens write them.
 use Rattle.std.proofs.Common.{◌≡◌, ℕ, ◌^◌, ◌<◌, List, Some, sym}
 use Rattle.wm_syntax.specs.declared.instructions.FloatType.{FloatType}
 use Rattle.wm_syntax.specs.declared.instructions.FloatType.TheVariants as float

@@ -1,4 +1,4 @@
--- Type uses as the code reads them: value types, groups of them, and their comparison with a type's.
+-- Steps of the readers of type uses: value types, groups, and the comparison with a type.
 use Rattle.std.proofs.Common.{◌≡◌, ℕ, zero, suc, ◌<◌, Bool, true, false, cond, List, [], ◌∷◌, ◌++◌, ◌↔◌, length, Option, Some, None, refl, sym, ap, subst, ◌∙◌, arith, append_assoc, length-append}
 use Rattle.std.specs.Prelude.{codes, flat_map, slice_get}
 use Rattle.std.proofs.lemmas.Bool.{cond-true, cond-false, false_from_ne_true}
@@ -29,7 +29,7 @@ fails_refused why.OpenString read h e = h
 fails_refused why.BadEscape read h e = h
 fails_refused _ read h e = e
 
--- a reader does not blame the bytes or the tokens
+-- A reader's refusal is neither `NotUtf8` nor a lexical error.
 pub fails_read : {Y : Type 0} (w : TextWhy) (read : Option Y) → Fails w read → IsOfReaders w
 fails_read why.NotUtf8 read h = h
 fails_read why.BadToken read h = h
@@ -38,7 +38,7 @@ fails_read why.OpenString read h = h
 fails_read why.BadEscape read h = h
 fails_read _ read h = tt
 
--- what is refused is not there to be read, under another name too
+-- A refusal other than `Memory` means that the exact answer is None.
 refused : {Y : Type 0} (v : TextWhy) (read : Option Y) → NotMemory v → Fails v read → read ≡ None
 refused why.Memory read h f = absurd h
 refused why.NotUtf8 read h f = absurd f
@@ -94,7 +94,7 @@ group_none front o e = ap (adding front) e
 
 -- ---- groups
 
--- any fuel that is enough
+-- Any sufficient bound gives the same answer.
 pub many_is : {X : Type 0} (goes : List Token → Bool) (r : Reader X) (P : X → Form Token) → Sound r P → ((x : X) (front : List Token) → P x front → 0 < length front)
     → (m n : ℕ) (k : List Token) → length k < m → length k < n → many_at m goes r k ≡ many_at n goes r k
 many_is {X} goes r P p some zero n k h g = absurd (omega (arith, h))
@@ -126,7 +126,7 @@ module _ {M : Type 0} where
   gather front xs None = refl
   gather front xs (Some x) = ap (λ (z : List M). Some (z, x.1)) (sym (append_assoc front xs (Together x.0)))
 
-  -- what a group that was added to a list was
+  -- The group that was appended to a list.
   group_was : (front new : List M) (o : Option (List M × List Token)) (k : List Token) → Adding front o ≡ Some (new, k) → (xs : List M) × (o ≡ Some (xs, k)) × (new ≡ front ++ xs)
   group_was front new None k e = absurd (let f : ◌≡◌ {A = Option (List M × List Token)} None (Some (new, k)) = e in cc)
   group_was front new (Some x) k e =
@@ -175,7 +175,7 @@ module _ {M : Type 0} (word : List ℕ) (r : Reader (List M)) (P : List M → Fo
       let size : length j ≡ length (one.0 ++ k) = ap length one.1 in
       omega (arith, size, length-append one.0 k, some g.0 one.0 one.2)
 
--- those of value types
+-- Groups of value types.
 group_size : (pr : Profile) (word : List ℕ) (ts : List ValType) (front : List Token) → OfUnnamed pr word ts front → 0 < length front
 group_size pr word ts front h = (group_begins pr word ts front [] h).1
 
@@ -336,7 +336,7 @@ fails_on _ o p f h = f h
 pub fails_use : {Y : Type 0} (w : TextWhy) (read : Option Y) → w ≡ why.TypeUse → read ≡ None → Fails w read
 fails_use w read e n = subst (λ (z : TextWhy). Fails z read) (sym e) n
 
--- ---- where no form follows
+-- ---- no form follows
 
 pub call_none : (pr : Profile) (names : Names) (i : List Token) → use_at pr names i ≡ None → call_use_at pr names i ≡ None
 unfolding call_use_at

@@ -1,4 +1,4 @@
--- Constants, memory arguments, block types, labels: what is read is written so, and what is written so is read.
+-- Constants, memory arguments, block types and labels are read exactly as tokens write them.
 use Rattle.std.proofs.Common.{◌≡◌, ℕ, zero, suc, ◌<◌, ◌≤◌, ◌-◌, ◌⊎◌, Bool, true, false, cond, List, [], ◌∷◌, ◌++◌, Option, Some, None, refl, sym, ap, subst, ◌∙◌, inl, inr, arith}
 use Rattle.std.specs.Prelude.{codes, ◌==◌, ◌&&◌, ◌^◌, nat_lt, nat_le, not, ℤ, pos, neg_ℤ, ◌-ℤ◌, ◌≢◌}
 use Rattle.std.proofs.lemmas.Bool.{cond-true, cond-false, eqb-true, eq-eqb, and_parts, ltb-true, lt-ltb, ltb-false, leb-true, le-leb, le-ltb, and_left, ne_eqb, eqb-false}

@@ -1,4 +1,4 @@
--- What follows an instruction's word.
+-- Indices: numbers, and identifiers with the item or label that they name.
 use Rattle.std.proofs.Common.{◌≡◌, ℕ, zero, suc, ◌<◌, true, false, List, [], ◌∷◌, Option, Some, None, refl, sym, ap, subst, ◌∙◌, inl, inr, arith}
 use Rattle.std.specs.Prelude.{◌==◌, ◌^◌, nat_lt, slice_get, ◌≢◌}
 use Rattle.std.proofs.lemmas.Bool.{cond-true, cond-false, cond_both, eqb-true, eq-eqb, and_parts, and_from, ltb-true, lt-ltb, and_left, ne_eqb}
@@ -51,7 +51,7 @@ place_found (Some b ∷ ids) a x e = elim (chosen (same_bytes b a) _ _ (Some x) 
   | inr p ↦ (let g = bind_ok (place_of ids a) (λ y. Some (suc y)) x p.1 in ap (slice_get (Some b ∷ ids)) (sym (same_some (suc g.0) x g.2)) ∙ place_found ids a g.0 g.1)
 ]
 
--- no nearer one has it
+-- No item before it has this identifier.
 pub place_first : (ids : Ids) (a : List ℕ) (x : ℕ) → place_of ids a ≡ Some x → (j : ℕ) → j < x → slice_get ids j ≢ Some (Some a)
 place_first [] a x e j lt h = absurd cc
 place_first (None ∷ ids) a x e zero lt h = let q : ◌≡◌ {A = Id} None (Some a) = same_some None (Some a) h in absurd cc
@@ -67,7 +67,7 @@ place_first (Some b ∷ ids) a x e j lt h = elim (chosen (same_bytes b a) _ _ (S
     by more zero f g lt h = let q : b ≡ a = same_some b a (same_some (Some b) (Some a) h) in let t : same_bytes b a ≡ true = ap (λ (z : List ℕ). same_bytes z a) q ∙ is_same a in let r : true ≡ false = sym t ∙ f in cc
     by more (suc j) f g lt h = let q : suc g.0 ≡ x = same_some (suc g.0) x g.2 in more g.0 j g.1 (omega (arith, q, lt)) h
 
--- where it stands, and no nearer one does, it is found
+-- An identifier at an index is found there, if none before it is the same.
 pub place_nearest : (ids : Ids) (a : List ℕ) (x : ℕ) → slice_get ids x ≡ Some (Some a) → ((j : ℕ) → j < x → slice_get ids j ≢ Some (Some a)) → place_of ids a ≡ Some x
 place_nearest [] a x e n = absurd cc
 place_nearest (None ∷ ids) a zero e n = let q : ◌≡◌ {A = Id} None (Some a) = same_some None (Some a) e in absurd cc
@@ -78,7 +78,7 @@ place_nearest (Some b ∷ ids) a (suc x) e n =
     (λ t. absurd (n 0 (omega arith) (ap (λ (z : List ℕ). Some (Some z)) (same_is b a t))))
     (λ _. bind_is (place_of ids a) _ x (place_nearest ids a x e (λ j lt. n (suc j) (omega (arith, lt)))))
 
--- of distinct ones no nearer one does
+-- If identifiers are distinct, none before an index is the same.
 pub distinct_nearest : (ids : Ids) (a : List ℕ) (x : ℕ) → AreDistinct ids → slice_get ids x ≡ Some (Some a) → (j : ℕ) → j < x → slice_get ids j ≢ Some (Some a)
 distinct_nearest ids a x d e j lt h = let q : j ≡ x = d a j x h e in omega (arith, q, lt)
 

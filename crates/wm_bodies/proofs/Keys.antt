@@ -1,4 +1,4 @@
--- Words that stand where a key, an identifier or a type may be left out.
+-- Keywords in place of an optional key, identifier or type.
 use Rattle.std.proofs.Common.{◌≡◌, ◌≢◌, ℕ, ◌<◌, ◌≤◌, Bool, true, false, not, List, [], ◌∷◌, length, Some, None, refl, sym, ap, subst, ◌∙◌, inr, arith, get_or}
 use Rattle.std.specs.Prelude.{◌==◌, ◌&&◌, nat_le}
 use Rattle.std.proofs.lemmas.Bool.{and_from, or_from, le-leb, ne_eqb, cond-true, cond-false}

@@ -27,7 +27,7 @@ use Rattle.wm_bodies.proofs.Immediates.{NotId, OfType, type_sound, type_complete
 use Rattle.wm_bodies.proofs.Indices.{id_is, is_identifier}
 use Rattle.wm_bodies.proofs.TypeUseLaws.{AreOf, plain_types, types_complete, types_of_it, types_sound, types_unnamed}
 
--- what stands between a group's word and its closing parenthesis, with types of the profile
+-- The contents of a group, between its keyword and its closing parenthesis, with types of the profile.
 abbrev pub Inside : Profile → List Named → Form Token
 Inside pr group k =
     ((name : List ℕ) × (t : ValType) × (group ≡ (Some name, t) ∷ []) × (WritesId (Some name) ▸ OfType pr t) k)

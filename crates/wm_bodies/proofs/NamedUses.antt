@@ -84,7 +84,7 @@ forms_plain pr names z k (a, b, e, w, (c, d, e2, ps, rs)) = (a, b, e, w, (c, d, 
 forms_of : (pr : Profile) (names : Names) (z : ℕ × (List Named × List ValType)) (k : List Token) → PlainForms names z k → NamedOf pr z.1.0 → AreOf pr z.1.1 → Forms pr names z k
 forms_of pr names z k (a, b, e, w, (c, d, e2, ps, rs)) of are = (a, b, e, w, (c, d, e2, (ps, of), (rs, are)))
 
--- ---- what is used
+-- ---- the parameters that a type use has
 
 abbrev Which : Signature → List Named → List ValType → List Named → Type 0
 Which f ps rs params = ((ps ≡ []) × (rs ≡ []) × (params ≡ map (λ t. (None, t)) f.params)) ⊎ ((types_of ps ≡ f.params) × (rs ≡ f.results) × (params ≡ ps))

@@ -1,4 +1,4 @@
--- Pieces nest as one tree, and what they write is what the tree is written by.
+-- Pieces nest as one tree, and the same tokens write the pieces and the tree.
 use Rattle.std.proofs.Common.{◌≡◌, inl, inr, ℕ, Bool, true, false, List, [], ◌∷◌, ◌++◌, Option, refl, sym, ap, subst, ◌∙◌, append_assoc}
 use Rattle.std.proofs.lemmas.List.{append-nil}
 use Rattle.std.specs.Prelude.{codes, map}
@@ -22,8 +22,8 @@ use Rattle.wm_bodies.specs.inner.Pieces.{Open, Opened, labels, Piece, plain, jum
 abbrev opened : Id → Bool → Open
 opened id b = record { id = id; may_else = b }
 
--- A list that is open around others: what opened the next one, and what stands before it. Of an if whose second
--- list is open, the first as well.
+-- An open list around others: the block that opened the next list, and the instructions before it. For an if with an
+-- open second list, it also has the first list.
 pub data Frame : Type 0 where
   frame : Opening → Id → Option ValType → Instructions → Frame
   second : Id → Option ValType → Instructions → Instructions → Frame
@@ -53,7 +53,7 @@ tree_of [] s (closes ∷ ps) = s
 tree_of (frame o id t before ∷ fs) s (closes ∷ ps) = tree_of fs (snoc before (one_block o t s)) ps
 tree_of (second id t before first ∷ fs) s (closes ∷ ps) = tree_of fs (snoc before (choice t first s)) ps
 
--- where else and end may stand
+-- Whether a piece may come next: an else or an end needs an open block.
 abbrev pub Fits : Opened → Piece → Type 0
 Fits [] middle = ⊥
 Fits (b ∷ bs) middle = b.may_else ≡ true
@@ -89,7 +89,7 @@ module _ {A : Type 0} (g : Grammar A) where
   AllPieces bs [] = λ k. k ≡ []
   AllPieces bs (q ∷ ps) = g.piece bs q ▸ AllPieces (after bs q) ps
 
-  -- what is written so far, where these lists are open
+  -- The tokens up to here write these instructions, with these lists open.
   abbrev pub State : List Frame → Instructions → Form A
   State [] s = g.list [] s
   State (frame o id t before ∷ fs) s = State fs before ▸ (g.begin o id t ▸ g.list (opened id (is_if o) ∷ blocks fs) s)

@@ -1,4 +1,4 @@
--- Numbers, no further than 2 ^ 64.
+-- Numbers, which the code reads up to 2^64.
 use Rattle.std.proofs.Common.{◌≡◌, ℕ, zero, suc, ◌<◌, ◌≤◌, ◌+◌, ◌-◌, Bool, true, false, List, [], ◌∷◌, ◌++◌, Option, Some, None, refl, sym, ap, ◌∙◌, arith}
 use Rattle.std.specs.Prelude.{min, nat_lt, nat_le, pos, neg_ℤ, ◌-ℤ◌, ◌^◌, ◌==◌, ◌≢◌}
 use Rattle.std.specs.Option.{option_map, MatchOption}

@@ -1,4 +1,4 @@
--- The name that a byte has names what the byte begins.
+-- The name of a byte names the instruction that the byte begins.
 use Rattle.std.proofs.Common.{◌≡◌, ℕ, zero, suc, ◌<◌, List, [], ◌∷◌, length, Some, refl, sym, ap, ◌∙◌, arith, slice_get}
 use Rattle.std.specs.Prelude.{map, slice_index_or}
 use Rattle.wm_syntax.specs.declared.instructions.op_class.OpClass.{OpClass}
@@ -9,7 +9,7 @@ use Rattle.wm_syntax.specs.exact.NameTable.{names, class_name, name_or_none, fir
 abbrev name_of : OpClass → List ℕ
 name_of c = name_or_none (class_name c)
 
--- each class of the table is the one that its name names; what has no name is nothing
+-- Each class of the table is the one that its name names. A byte without a name begins nothing.
 same_classes : map (λ c. first_named classes (name_of c)) classes ≡ classes
 same_classes = refl
 

@@ -1,4 +1,4 @@
--- The places of the open blocks' identifiers, in their list and in their map.
+-- The positions of the open blocks' identifiers, in the list and in the map.
 use Rattle.std.proofs.Common.{◌≡◌, ℕ, suc, ◌<◌, ◌+◌, ◌-◌, Bool, true, false, cond, List, [], ◌∷◌, ◌++◌, length, Option, Some, None, refl, sym, ap, subst, ◌∙◌, arith, get_or, length-append}
 use Rattle.std.specs.Prelude.{drop, map, reverse, take}
 use Rattle.std.specs.Borrow.{Bor}
@@ -41,7 +41,7 @@ same_eq a b = by (bytes_eq a b) refl
 abbrev Raw : Type 0
 Raw = Option (Bor (List ℕ))
 
--- the depth of a place among so many blocks
+-- The depth of a position among n blocks.
 abbrev pub deep : ℕ → Option ℕ → Option ℕ
 deep n None = None
 deep n (Some p) = Some (n - 1 - p)
@@ -99,7 +99,7 @@ depth_none bs name e = sym (depth_found bs name ∙ ap (deep (length bs)) e)
 reverse_push : (bs : List Block) (b : Block) → reverse (bs ++ b ∷ []) ≡ b ∷ reverse bs
 reverse_push bs b = reverse-append bs (b ∷ [])
 
--- what is said of blocks, of the last and of those before it
+-- A property of a list of blocks, after its last block is split off.
 pub at_last : (P : List Block → Type 0) (old new : List Block) (b : Block) → old ≡ new ++ b ∷ [] → P (reverse old) → P (b ∷ reverse new)
 at_last P old new b e h = subst P (ap reverse e ∙ reverse_push new b) h
 

@@ -1,4 +1,4 @@
--- A piece of a body: what is read is written so, and what is written so is read.
+-- Pieces of a body are read exactly as tokens write them.
 use Rattle.std.proofs.Common.{◌≡◌, ℕ, ◌<◌, ◌≤◌, true, false, cond, List, [], ◌∷◌, ◌++◌, ◌⊎◌, length, Option, Some, None, refl, sym, ap, subst, ◌∙◌, inl, inr, arith, append_assoc}
 use Rattle.std.specs.Prelude.{codes, ◌==◌, ◌^◌, nat_lt, not}
 use Rattle.std.proofs.lemmas.Bool.{cond-true, ltb-true, lt-ltb, and_left, ne_eqb}
@@ -97,7 +97,7 @@ from_rest sc (b ∷ bs) middle more (may, h) = (may, closes_again (codes "else")
 from_rest sc [] closes more h = absurd h
 from_rest sc (b ∷ bs) closes more h = closes_again (codes "end") b.id more h
 
--- ---- what follows a piece
+-- ---- the tokens after a piece
 
 -- the parenthesis that closes the function, or a word that is no part of a memory argument
 abbrev pub Follow : List Token → Type 0
@@ -226,7 +226,7 @@ piece_named p (opens If id t) h = found_named p (codes "if") (op.If t) refl h
 piece_named p middle h = found_named p (codes "else") op.Else refl tt
 piece_named p closes h = found_named p (codes "end") op.End refl tt
 
--- what a word names: nothing that is read, or an op of the profile
+-- A keyword that names an op of the profile.
 abbrev Named : Profile → List ℕ → Type 0
 Named p w = (o : Op) × (op_name o ≡ Some w) × IsOpOf p o × (class_of o ≡ class_named p w)
 
@@ -239,7 +239,7 @@ named_has p w = by (class_named p w) refl
     by (class.Plain o) e = inr (inr (only_named p w (subst IsClassOfOp (sym e) tt)))
     by (class.With kind) e = inr (inr (only_named p w (subst IsClassOfOp (sym e) tt)))
 
--- what is known of the scope: its identifiers are distinct
+-- Identifiers of the scope are distinct.
 pub record IsScope (sc : Scope) : Type 0 where
   pub functions : AreDistinct sc.names.functions
   pub globals : AreDistinct sc.names.globals
@@ -401,7 +401,7 @@ module _ (use_at : Reader ℕ) (sc : Scope) (use_sound : Sound use_at (UnnamedTy
   some_word : (v w : List ℕ) → ◌≡◌ {A = Option (List ℕ)} (Some v) (Some w) → v ≡ w
   some_word v w e = same_some v w e
 
-  -- what an op's class reads begins with the op's name
+  -- The tokens that the reader of an op's class accepts follow the op's name.
   class_sound : (o : Op) (w : List ℕ) → op_name o ≡ Some w → IsOpOf p o → Sound (class_at use_at p sc bs (class_of o)) (Headed w)
   class_sound (op.Simple (s.Br x)) w e h = kind_sound k.Br w (some_word (codes "br") w e) tt
   class_sound (op.Simple (s.BrIf x)) w e h = kind_sound k.BrIf w (some_word (codes "br_if") w e) tt

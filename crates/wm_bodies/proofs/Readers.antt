@@ -1,4 +1,4 @@
--- What is read is written so, and what is written so is read.
+-- Readers are sound and complete: they read exactly what tokens write.
 use Rattle.std.proofs.Common.{◌≡◌, ℕ, zero, suc, ◌<◌, Bool, true, false, List, [], ◌∷◌, ◌++◌, length, Option, Some, None, refl, sym, ap, subst, ◌∙◌, inl, inr, arith, append_assoc, length-append}
 use Rattle.std.specs.Prelude.{◌==◌}
 use Rattle.std.proofs.lemmas.Bool.{cond-true, cond-false, eqb-true, eq-eqb, and_parts, and_from}
@@ -9,11 +9,11 @@ use Rattle.wm_tokens.specs.Identifiers.{One}
 use Rattle.wm_tokens.specs.Written.{Paren}
 use Rattle.wm_bodies.specs.exact.Reading.{Reader, same_bytes, made, ◌>>=◌, open_at, close_at, atom_at, word_of, then_at, paren_at, many_at}
 
--- what is read stands in front
+-- The tokens in front write the value that was read.
 abbrev pub Sound : {X : Type 0} → Reader X → (X → Form Token) → Type 0
 Sound {X} r W = (k : List Token) (x : X) (rest : List Token) → r k ≡ Some (x, rest) → (front : List Token) × (k ≡ front ++ rest) × W x front
 
--- what stands in front is read, where this follows
+-- A value that the tokens in front write is read, if F holds of the tokens after them.
 abbrev pub Complete : {X : Type 0} → Reader X → (X → Form Token) → (List Token → Type 0) → Type 0
 Complete {X} r W F = (x : X) (front rest : List Token) → W x front → F rest → r (front ++ rest) ≡ Some (x, rest)
 
@@ -67,7 +67,7 @@ then_sound {X} {Y} r s P Q p q k z rest e =
     let whole : k ≡ (one.0 ++ two.0) ++ b.0.1 = one.1 ∙ ap (λ (w : List Token). one.0 ++ w) two.1 ∙ sym (append_assoc one.0 two.0 b.0.1) in
     (one.0 ++ two.0, whole ∙ ap (λ (w : (X × Y) × List Token). (one.0 ++ two.0) ++ w.1) is, subst (λ (w : (X × Y) × List Token). Both P Q w.0 (one.0 ++ two.0)) is (one.0, two.0, refl, one.2, two.2))
 
--- what follows the first is the second's front, and then the rest
+-- The tokens after the first part are those of the second, and then the rest.
 pub then_complete : {X Y : Type 0} (r : Reader X) (s : Reader Y) (P : X → Form Token) (Q : Y → Form Token) (F G : List Token → Type 0)
     → Complete r P F → Complete s Q G → ((y : Y) (front rest : List Token) → Q y front → G rest → F (front ++ rest)) → Complete (then_at r s) (Both P Q) G
 then_complete r s P Q F G p q follow z front rest (x, y, e, a, b) g =

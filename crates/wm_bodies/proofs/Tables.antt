@@ -1,4 +1,4 @@
--- A loop over labels.
+-- The loop that reads labels or indices.
 use Rattle.std.proofs.Common.{◌≡◌, ℕ, ◌<◌, ◌≤◌, Bool, true, false, List, [], ◌∷◌, ◌++◌, length, Option, Some, None, cond, ◌+◌, arith, refl, sym, ap, ◌∙◌, append_assoc, length-append}
 use Rattle.std.proofs.lemmas.Bool.{cond-true, cond-false, lt-ltb, le-ltb, ltb-true}
 use Rattle.std.proofs.lemmas.List.{append-nil}
@@ -56,7 +56,7 @@ labels_fail front ids (atom a ∷ j) b e = ap (with_front front) (cond-false (is
     by None e = refl
     by (Some x) e = cc
 
--- where the labels end
+-- The labels end here.
 pub labels_over : (front : List ℕ) (ids : Ids) (j : List Token) → begins_index j ≡ false → with_front front (labels_at ids j) ≡ Some (front, j)
 labels_over front ids j f = ap (with_front front) (labels_end ids j f) ∙ ap (λ (z : List ℕ). Some (z, j)) (append-nil front)
 

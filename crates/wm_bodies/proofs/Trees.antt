@@ -44,7 +44,7 @@ module _ (p : Profile) (sc : Scope) where
   runs_text : (bs cs : Opened) (ps : List Piece) (f g : List Token) → f ≡ g → Runs bs cs ps g → Runs bs cs ps f
   runs_text bs cs ps f g e h = subst (Runs bs cs ps) (sym e) h
 
-  -- what a tree's tokens are as pieces
+  -- The pieces that a tree's tokens write.
   pub record Flat (bs : Opened) (has : Form Op) (front : List Token) : Type 0 where
     pub ps : List Piece
     pub runs : Runs bs bs ps front

@@ -1,4 +1,4 @@
--- The type use of a call_indirect.
+-- The type use of a call_indirect is read exactly as tokens write it.
 use Rattle.std.proofs.Common.{◌≡◌, ℕ, zero, suc, ◌<◌, ◌⊎◌, Bool, true, false, cond, List, [], ◌∷◌, ◌++◌, length, Option, Some, None, refl, sym, ap, subst, ◌∙◌, inl, inr, arith, length-append}
 use Rattle.std.specs.Prelude.{codes, map, flat_map, ◌&&◌, ◌||◌, slice_get}
 use Rattle.std.specs.List.{AllByRecursion}
@@ -229,7 +229,7 @@ parts_complete pr names d =
 abbrev pub Fitting : Signature → List ValType → List ValType → Type 0
 Fitting f ps rs = ((ps ≡ []) × (rs ≡ [])) ⊎ ((ps ≡ f.params) × (rs ≡ f.results))
 
--- what fits a type of the profile is of it
+-- Parameters and results that fit a type of the profile are of the profile.
 pub fitting_has : (pr : Profile) (f : Signature) (ps rs : List ValType) → HasSignature pr f → Fitting f ps rs → AreOf pr ps × AreOf pr rs
 fitting_has pr f ps rs h (inl (a, b)) = (subst (AreOf pr) (sym a) tt, subst (AreOf pr) (sym b) tt)
 fitting_has pr f ps rs h (inr (a, b)) = (subst (AreOf pr) (sym a) h.0, subst (AreOf pr) (sym b) h.1)

@@ -1,4 +1,4 @@
--- The parentheses of a field's tokens balance, so that skipping goes past them.
+-- The parentheses of a field's tokens balance, so skipping ends behind the field.
 use Rattle.std.proofs.Common.{◌≡◌, ℕ, suc, Bool, true, List, [], ◌∷◌, ◌++◌, refl, ap, ◌∙◌, append_assoc}
 use Rattle.std.specs.Prelude.{IsTrue}
 use Rattle.wm_syntax.specs.Spelling.{Form, Each, ◌▸◌}
@@ -25,7 +25,7 @@ Balanced f = (n : ℕ) (k : List Token) → skip (suc n) (f ++ k) ≡ skip (suc 
 abbrev pub AllBalanced : Form Token → Type 0
 AllBalanced P = (f : List Token) → P f → Balanced f
 
--- whatever the atoms are
+-- Any atom.
 abbrev Any : List ℕ → Type 0
 Any a = Unit {0}
 
@@ -41,7 +41,7 @@ closed = record {
   number = λ a is. tt;
 }
 
--- and whatever the instructions
+-- Any float literal, and any instruction.
 any : IsTrue (has Four Floats) → (a : List ℕ) → Any a
 any h a = tt
 

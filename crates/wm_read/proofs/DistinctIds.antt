@@ -1,4 +1,4 @@
--- Identifiers are distinct where each comes for the first time.
+-- Identifiers are distinct if and only if each is new where it is appended.
 use Rattle.std.proofs.Common.{◌≡◌, ℕ, zero, suc, ◌⊎◌, true, false, List, [], ◌∷◌, ◌++◌, length, Option, Some, None, refl, sym, ap, subst, ◌∙◌, inl, inr, arith, append_assoc}
 use Rattle.std.specs.Prelude.{is_none, slice_get}
 use Rattle.std.proofs.lemmas.Bool.{and_from, and_parts}

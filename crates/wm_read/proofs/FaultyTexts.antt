@@ -1,5 +1,5 @@
--- A text whose tokens have a fault writes no module: under a profile without floats a module is written by
--- identifiers, numbers and words alone.
+-- A text with a lexical error writes no module. Under a profile without floats, the atoms of a module are identifiers,
+-- numbers and keywords.
 use Rattle.std.proofs.Common.{◌≡◌, ℕ, Bool, true, false, List, [], ◌∷◌, ◌++◌, refl, sym, ap, subst, ◌∙◌, inl, inr, append_assoc}
 use Rattle.std.proofs.lemmas.List.{append-nil}
 use Rattle.std.specs.List.{AllByRecursion}
@@ -57,7 +57,7 @@ closed = record {
   number = λ a h. inr (inr (inl h));
 }
 
--- ---- what a module writes
+-- ---- the tokens that write a module
 
 module _ (p : Profile) (none : has p Floats ≡ false) where
   float : IsTrue (has p Floats) → (a : List ℕ) → IsPlain a
@@ -173,7 +173,7 @@ all_replaced_plain : (s : Spellings) (k : List Token) → Plain (map (replaced s
 all_replaced_plain s [] h = tt
 all_replaced_plain s (t ∷ k) h = (replaced_plain s t h.0, all_replaced_plain s k h.1)
 
--- ---- what a text has of such tokens has no fault
+-- ---- a text of these tokens has no lexical error
 
 lead_spaces : (text : List ℕ) (parts : List (List ℕ)) (b front back : List ℕ) → LeadsTo false text b → b ≡ front ++ back → Each (λ part x. (x ≡ part) × Blank part) parts front → LeadsTo false text back
 lead_spaces text [] b front back l is e = subst (LeadsTo false text) (is ∙ ap (λ (z : List ℕ). z ++ back) e) l

@@ -1,4 +1,4 @@
--- Fields as the code reads them: strings, lists of functions, and identifiers.
+-- Steps of the readers of fields: strings, lists of functions, and identifiers.
 use Rattle.std.proofs.Common.{◌≡◌, ℕ, ◌<◌, List, [], ◌∷◌, ◌++◌, length, Option, Some, None, refl, sym, ap, ◌∙◌, arith, append_assoc}
 use Rattle.std.specs.Prelude.{flat_map, IsUtf8}
 use Rattle.std.specs.Str.{is_utf8}

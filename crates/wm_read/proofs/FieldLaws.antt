@@ -1,4 +1,4 @@
--- Fields: what is read is written so, and what is written so is read.
+-- Fields are read exactly as tokens write them.
 use Rattle.std.proofs.Common.{◌≡◌, ℕ, ◌<◌, true, false, List, [], ◌∷◌, ◌++◌, length, Some, refl, sym, ap, subst, ◌∙◌, arith, append_assoc, length-append}
 use Rattle.std.specs.Prelude.{suc}
 use Rattle.wm_syntax.specs.Spelling.{Form, Each, ◌▸◌}
@@ -56,7 +56,7 @@ FieldOf p _ = Unit {0}
 abbrev Item : Names → ExportKind × ℕ → Form Token
 Item names x = WritesExport names x.0 x.1
 
--- what stands after a field's word
+-- The contents of a field after its keyword.
 abbrev pub Inside : Profile → (Function → Form Token) → Names → Field → Form Token
 Inside p Fn names (type_field id f) = WritesId id ▸ OfSignature p f
 Inside p Fn names (import_field id i) = WritesName i.module_name ▸ WritesName i.item_name ▸ OfDesc p names (id, i.desc)
@@ -113,7 +113,7 @@ field_found : (a : List ℕ) (x : FieldKind) → field_named a ≡ Some x → a 
 field_found a x e =
     with_found field_word (kind.Type ∷ kind.Import ∷ kind.Func ∷ kind.Table ∷ kind.Memory ∷ kind.Global ∷ kind.Export ∷ kind.Start ∷ kind.Elem ∷ kind.Data ∷ []) a x e
 
--- where functions are read so
+-- Given that the reader of functions is sound.
 module _ (p : Profile) (names : Names) (Fn : Function → Form Token) (fn_sound : Sound (function_at p names) Fn) where
   inside_sound : (x : FieldKind) → Sound (inside_at p names x) (OfKind p Fn names x)
   inside_sound kind.Type =

@@ -1,4 +1,4 @@
--- The parts of fields: what is read is written so, and what is written so is read.
+-- The parts of fields are read exactly as tokens write them.
 use Rattle.std.proofs.Common.{◌≡◌, ℕ, Bool, true, false, List, [], ◌∷◌, ◌++◌, Option, Some, None, refl, sym, ap, subst, ◌∙◌, inl, inr, append_assoc}
 use Rattle.std.specs.Prelude.{codes, flat_map, map}
 use Rattle.std.specs.Str.{is_utf8}
@@ -234,7 +234,7 @@ module _ (p : Profile) (names : Names) where
   offset_complete d c front rest ((a, b, e, w, (x, y, e2, h, l)), of) any =
       paren_complete (codes "offset") (const_at p names) OfConst (λ c f r h i. const_complete d c f r h tt) c front rest (a, b, e, w, (x, y, e2, (h, of), l)) tt
 
--- ---- what is imported
+-- ---- import descriptors
 
 item_found : (a : List ℕ) (x : ExportKind) → item_named a ≡ Some x → a ≡ item_word x
 item_found a x e = with_found item_word (kind.Func ∷ kind.Table ∷ kind.Memory ∷ kind.Global ∷ []) a x e
@@ -251,7 +251,7 @@ desc_space (desc.Table l) = kind.Table
 desc_space (desc.Memory l) = kind.Memory
 desc_space (desc.Global g) = kind.Global
 
--- what stands after the identifier
+-- The type in an import descriptor.
 abbrev DescType : Profile → Names → ImportDesc → Form Token
 DescType pr names (desc.Func x) = λ k. (ps : List Named) × TypeUse names x ps k
 DescType pr names (desc.Table l) = WritesTableType l
@@ -261,7 +261,7 @@ DescType pr names (desc.Global g) = OfGlobalType pr g
 abbrev OfKind : Profile → Names → ExportKind → ImportDesc → Form Token
 OfKind pr names x d k = (desc_space d ≡ x) × DescType pr names d k
 
--- what is imported, of the profile
+-- An import descriptor of the profile.
 abbrev pub OfDesc : Profile → Names → Id × ImportDesc → Form Token
 OfDesc pr names x k = WritesDesc names x.0 x.1 k × HasDesc pr x.1
 
@@ -309,7 +309,7 @@ kind_complete pr names n knows (desc.Table l) front rest h f = made_is desc.Tabl
 kind_complete pr names n knows (desc.Memory l) front rest h f = made_is desc.Memory (limits_at (front ++ rest)) l rest (limits_complete l front rest h (close_number rest f))
 kind_complete pr names n knows (desc.Global g) front rest h f = made_is desc.Global (global_type_at pr (front ++ rest)) g rest (global_type_complete pr g front rest h tt)
 
--- what may stand after an identifier is none
+-- The tokens that may follow an optional identifier begin with none.
 pub number_not_id : (front rest : List Token) (l : Limits) → WritesLimits l front → NotId (front ++ rest)
 number_not_id front rest l (a, b, e, (c, i, u), m) =
     subst (λ (z : List Token). NotId (z ++ rest)) (sym (e ∙ ap (λ (z : List Token). z ++ b) i)) (number_no_id l.min c (magnitude_more l.min c u.1))
@@ -347,7 +347,7 @@ desc_complete pr names n knows (id, d) front rest h f =
     (λ y a b w g. ap (λ (z : ExportKind). desc_kind pr names z (a ++ b)) (sym w.0) ∙ kind_complete pr names n knows y a b w.1 g) (λ y a b w g. desc_not_id pr names y a b w.1))
     (id, d) front rest (from_desc pr names id d front h)
 
--- ---- what is exported
+-- ---- export descriptors
 
 abbrev WritesPlace : Names → ExportKind × ℕ → Form Token
 WritesPlace names x = WritesExport names x.0 x.1

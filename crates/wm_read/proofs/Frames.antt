@@ -1,4 +1,4 @@
--- What stands where a head is refused, and where a module is.
+-- A token is present where an identifier is refused, and in a text with `( module id?`.
 use Rattle.std.proofs.Common.{◌≡◌, ◌≢◌, true, false, List, [], Option, Some, None, sym, ap, ◌∙◌}
 use Rattle.wm_tokens.specs.Tokens.{Token}
 use Rattle.wm_tokens.specs.Identifiers.{Id, Ids}

@@ -1,4 +1,4 @@
--- Functions as the code reads them.
+-- Steps of the reader of functions.
 use Rattle.std.proofs.Common.{◌≡◌, ℕ, zero, suc, ◌<◌, ◌≤◌, ◌+◌, Bool, true, false, cond, List, [], ◌∷◌, ◌++◌, length, replicate, take, drop, get_or, Option, Some, None, refl, sym, ap, subst, ◌∙◌, arith, append_assoc, inl, inr, length-append}
 use Rattle.std.specs.Prelude.{MatchOption, nat_lt, ◌&&◌, ◌^◌, ◌⊎◌}
 use Rattle.std.proofs.lemmas.Bool.{and_from, and_left, cond-false, cond-true, le-ltb, lt-ltb}
@@ -40,7 +40,7 @@ new_append seen (id ∷ xs) ys =
 ids_append : (ps ls : List Named) → ids_of (ps ++ ls) ≡ ids_of ps ++ ids_of ls
 ids_append ps ls = map-append (λ (p : Named). p.0) ps ls
 
--- those of a run
+-- The identifiers of a run.
 abbrev pub run_ids : NamedRun → Ids
 run_ids run = ids_of (named_of run)
 
@@ -61,7 +61,7 @@ none_ids (suc n) t = ap (λ (z : Ids). None ∷ z) (none_ids n t)
 
 pub ruleset run_laws = (one_new, none_new, none_ids)
 
--- those of runs
+-- The identifiers of runs.
 abbrev pub code_ids : List NamedRun → Ids
 code_ids runs = ids_of (named_list runs)
 

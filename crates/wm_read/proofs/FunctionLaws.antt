@@ -1,4 +1,4 @@
--- Functions: what is read is written so, and what is written so is read.
+-- Functions are read exactly as tokens write them.
 use Rattle.std.proofs.Common.{◌≡◌, ℕ, ◌<◌, true, List, [], ◌∷◌, ◌++◌, length, Option, Some, None, refl, sym, ap, subst, ◌∙◌, inl, inr, append_assoc}
 use Rattle.std.specs.Prelude.{codes, nat_lt, ◌^◌}
 use Rattle.std.proofs.lemmas.Bool.{and_from, and_parts, cond-true, lt-ltb, ltb-true}
@@ -30,7 +30,7 @@ use Rattle.wm_bodies.proofs.TypeUseLaws.{AreOf, KnowsTypes}
 abbrev pub scope_of : Names → List Named → List Named → Scope
 scope_of names params locals = record { names = names; locals = ids_of (params ++ locals) }
 
--- what stands after a function's identifier, with locals and instructions of the profile
+-- A function after its identifier, with locals and instructions of the profile.
 abbrev pub FunctionAt : Profile → Names → Function → Form Token
 FunctionAt p names f k =
     (params locals : List Named) × (types_of locals ≡ f.locals) × (length f.locals < 2 ^ 32) × AreDistinct (ids_of (params ++ locals))
@@ -71,7 +71,7 @@ function_sound p names d k f rest e =
               (params, locals, refl, ltb-true (length (types_of locals)) 0x1_0000_0000 c.0, distinct, (u, v ++ g.0, refl, used, (v, g.0, refl, groups.0, g.4)), (groups.1, g.5)),
         )
 
--- ---- what follows
+-- ---- the tokens after a function
 
 instructions_follow : (p : Profile) (sc : Scope) (s : Instructions) (front rest : List Token) → WritesInstructions sc [] s front → HasInstructions p s → BeginsClose rest → Follow (front ++ rest)
 instructions_follow p sc s front rest h g f = let b = body_flat p sc s front h g in by b.2.0 b.2.2

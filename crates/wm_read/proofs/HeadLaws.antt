@@ -1,4 +1,4 @@
--- What the tokens of fields are, the first reading notes, and their rules.
+-- The first pass notes what the tokens of fields write, and checks the rules on order and identifiers.
 use Rattle.std.proofs.Common.{◌≡◌, ℕ, zero, suc, ◌<◌, Bool, true, false, cond, List, [], ◌∷◌, ◌++◌, length, Option, Some, None, refl, sym, ap, subst, ◌∙◌, arith, append_assoc, length-append}
 use Rattle.std.specs.Prelude.{codes, not, ◌&&◌}
 use Rattle.std.proofs.lemmas.Bool.{cond-true, cond-false}
@@ -33,7 +33,7 @@ use Rattle.wm_read.proofs.Rules.{kind_of, after, allowed, note_all}
 use Rattle.wm_read.proofs.SignatureLaws.{signature_complete}
 use Rattle.wm_bodies.proofs.TypeUseLaws.{KnowsTypes}
 
--- ---- what stands in parentheses
+-- ---- the contents of parentheses
 
 abbrev pub Inside : List ℕ → Form Token → List Token → Type 0
 Inside w P front = (x : List Token) × P x × ((rest : List Token) → front ++ rest ≡ open_paren ∷ atom w ∷ (x ++ close_paren ∷ rest))
@@ -83,7 +83,7 @@ plain_use names x ps f rest (g, qs, rs, look, (a, b, e, h, more), which) =
 
 -- ---- heads behind their words
 
--- what is read where an identifier stands first
+-- The answer for an optional identifier.
 free_is : (s : Noted) (id : Id) (Q : Form Token) → Plain Q → (ids : List Id) (x rest : List Token) → (w : (WritesId id ▸ Q) x)
     → free_id_at ids (x ++ rest) ≡ cond (is_new ids id) (Some (id, w.1 ++ rest)) None
 free_is s id Q q ids x rest (i, b, e, w, h) =
@@ -171,7 +171,7 @@ import_is names s id i x rest (a, b, e, m, (c, d, e2, n, h)) =
 
 -- ---- a field
 
--- what a field's head gives
+-- The answer for a field's head.
 abbrev pub Given : Noted → Field → List Token → Option (Noted × List Token)
 Given s f rest = cond (allowed s f) (Some (after s f, rest)) None
 
@@ -182,7 +182,7 @@ past Q q x rest h = q x h 0 (close_paren ∷ rest)
 other_is : (s : Noted) (Q : Form Token) → AllBalanced Q → (x rest : List Token) → Q x → ◌>>=◌ {B = Noted × List Token} (skip 1 (x ++ close_paren ∷ rest)) (λ r. Some (s, r)) ≡ Some (s, rest)
 other_is s Q q x rest h = bind_is (skip 1 (x ++ close_paren ∷ rest)) (λ r. Some (s, r)) rest (past Q q x rest h)
 
--- where a rule of order decides first
+-- A rule on order is checked first.
 placed : (t u : Bool) (o : Option (Noted × List Token)) (x : Noted × List Token) → o ≡ cond u (Some x) None → cond t None o ≡ cond (not t && u) (Some x) None
 placed true u o x e = refl
 placed false u o x e = e
@@ -206,7 +206,7 @@ body_plain names f params locals =
     plain_then (TypeUse names f.type_index params) (WritesGroups (codes "local") locals ▸ WritesInstructions (record { names = names; locals = ids_of (params ++ locals) }) [] f.body)
     (plain_use names f.type_index params)
 
--- what a type field defines is of the profile
+-- The type of a type field is of the profile.
 abbrev pub TypeOf : Profile → Field → Type 0
 TypeOf pr (type_field id f) = HasSignature pr f
 TypeOf pr _ = Unit {0}

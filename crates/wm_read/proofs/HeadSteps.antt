@@ -1,4 +1,4 @@
--- The first reading, head by head: it uses its tokens up, and keeps identifiers distinct.
+-- The first pass, head by head: each step consumes tokens and keeps identifiers distinct.
 use Rattle.std.proofs.Common.{◌≡◌, ℕ, zero, suc, ◌<◌, ◌≤◌, ◌+◌, ◌-◌, Bool, true, false, cond, List, [], ◌∷◌, ◌++◌, length, Option, Some, None, refl, sym, ap, subst, ◌∙◌, inl, inr, arith, length-append}
 use Rattle.std.proofs.lemmas.Bool.{cond-true, cond-false, and_from}
 use Rattle.wm_syntax.specs.declared.modules.ExportKind.{ExportKind}
@@ -51,7 +51,7 @@ skip_over (suc n) j le = absurd (omega (arith, le))
 
 pub ruleset skip_laws = (skip_open, skip_close, skip_string, skip_atom, skip_end, skip_over)
 
--- ---- what is read or skipped is not longer
+-- ---- reading and skipping leave no more tokens
 
 skipped : (n : ℕ) (j k : List Token) → skip n j ≡ Some k → length k ≤ length j
 skipped zero j k e = let s : j ≡ k = same_some j k e in omega (arith, ap length s)
@@ -61,7 +61,7 @@ skipped (suc n) (close_paren ∷ j) k e = let h = skipped n j k e in omega (arit
 skipped (suc n) (atom a ∷ j) k e = let h = skipped (suc n) j k e in omega (arith, h)
 skipped (suc n) (string b ∷ j) k e = let h = skipped (suc n) j k e in omega (arith, h)
 
--- what stands behind something
+-- A reader leaves no more tokens than it was given.
 behind : {X : Type 0} (r : Reader X) (W : X → List Token → Type 0) → Sound r W → (j : List Token) (x : X) (k : List Token) → r j ≡ Some (x, k) → length k ≤ length j
 behind r W s j x k e = let g = s j x k e in let size : length j ≡ length (g.0 ++ k) = ap length g.1 in omega (arith, size, length-append g.0 k)
 
@@ -117,7 +117,7 @@ with_item_distinct names kind.Global id h d =
 
 -- ---- a head
 
--- what a step from one state and text to another keeps
+-- The properties that a step keeps, from one state and text to the next.
 record Step (s t : Noted) (j k : List Token) : Type 0 where
   size : length k ≤ length j
   distinct : HasDistinct s.names → HasDistinct t.names
@@ -184,7 +184,7 @@ other_step s t j k e =
     let is : ◌≡◌ {A = Noted × List Token} (s, r.0) (t, k) = same_some _ (t, k) r.2 in
     subst (λ (z : Noted × List Token). Step s z.0 j z.1) is (record { size = skipped 1 j r.0 r.1; distinct = λ d. d })
 
--- where a rule of order lets it
+-- A rule on order allows it.
 placed : (t : Bool) (o : Option (Noted × List Token)) (x : Noted × List Token) → cond t None o ≡ Some x → o ≡ Some x
 placed true o x e = absurd (let f : ◌≡◌ {A = Option (Noted × List Token)} None (Some x) = e in cc)
 placed false o x e = e
@@ -217,7 +217,7 @@ head_shrinks pr s t j k e = (head_step pr s t j k e).0
 
 -- ---- all heads
 
--- any fuel that is enough
+-- Any sufficient bound gives the same answer.
 any_fuel : (pr : Profile) (m n : ℕ) (s : Noted) (k : List Token) → length k < m → length k < n → heads_within pr m s k ≡ heads_within pr n s k
 any_fuel pr zero n s k lm ln = absurd (omega (arith, lm))
 any_fuel pr (suc m) zero s k lm ln = absurd (omega (arith, ln))

@@ -1,4 +1,4 @@
--- The fields of a module, one after the other.
+-- The fields of a module, one after another.
 use Rattle.std.proofs.Common.{◌≡◌, ℕ, zero, suc, ◌<◌, true, false, List, [], ◌∷◌, ◌++◌, length, Option, Some, None, refl, sym, ap, ◌∙◌, subst, inl, inr, arith, append_assoc, length-append}
 use Rattle.std.proofs.lemmas.Bool.{cond-false, cond-true}
 use Rattle.std.proofs.lemmas.List.{append-nil}
@@ -31,7 +31,7 @@ use Rattle.wm_bodies.proofs.PieceLaws.{piece_sound}
 use Rattle.wm_bodies.proofs.Readers.{Sound, bind_is, bind_ok, then_sound}
 use Rattle.wm_bodies.proofs.TypeUseLaws.{call_sound}
 
--- ---- what is read stands in front, whatever the names are
+-- ---- the tokens in front write what is read, for any names
 
 ops_front : (p : Profile) (sc : Scope) (n : ℕ) (bs : Opened) (k : List Token) (ops : List Op) (rest : List Token) → ops_within (call_use_at p sc.names) p sc n bs k ≡ Some (ops, rest) → (front : List Token) × (k ≡ front ++ rest)
 ops_front p sc zero bs k ops rest e = absurd cc
@@ -137,7 +137,7 @@ field_shrinks p names f j k e =
     let size : length j ≡ length (one.0 ++ k) = ap length one.1 in
     omega (arith, size, length-append one.0 k, some_tokens p names f one.0 one.2)
 
--- ---- what the fields have together
+-- ---- the module of all fields
 
 abbrev joined : Module → Module → Module
 joined a b = record {

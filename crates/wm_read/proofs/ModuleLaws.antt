@@ -1,4 +1,4 @@
--- A module is read exactly where the tokens write it.
+-- A module is read if and only if the tokens write it.
 use Rattle.std.proofs.Common.{◌≡◌, ◌≤◌, List, [], ◌∷◌, ◌++◌, Option, Some, None, length, refl, sym, ap, subst, ◌∙◌, ◌↔◌, append_assoc}
 use Rattle.std.specs.Prelude.{AllPairs, codes, filter_map}
 use Rattle.std.proofs.lemmas.List.{append-nil}
@@ -25,7 +25,7 @@ use Rattle.wm_bodies.proofs.TypeUseLaws.{KnowsTypes}
 
 -- ---- the frame
 
--- what stands before the fields
+-- The tokens before the fields.
 frame_found : (k j : List Token) → frame_at k ≡ Some j → (id : Id) × (front : List Token) × (k ≡ open_paren ∷ atom (codes "module") ∷ (front ++ j)) × WritesId id front
 frame_found k j e =
     let o = bind_ok (open_at k) (λ o. atom_at (word_of (codes "module")) o.1 >>= λ w. id_at w.1 >>= λ i. Some i.1) j e in
@@ -51,7 +51,7 @@ end_found (t ∷ k) x e = absurd cc
 
 -- ---- the names
 
--- what the first reading notes of these fields
+-- The notes of the first pass over these fields.
 noted_is : (pr : Profile) (names : Names) (fs : List Field) (front rest : List Token) → KnowsTypes pr (names_of fs) → Each (WritesField names) fs front
     → names_at pr (front ++ close_paren ∷ rest) ≡ names_in (note_all nothing fs >>= λ t. Some (t, close_paren ∷ rest))
 noted_is pr names fs front rest of h = ap names_in (heads_are pr names nothing fs front (close_paren ∷ rest) of h refl)

@@ -1,4 +1,4 @@
--- A text whose older words are overwritten has the same tokens, each older word replaced.
+-- A text whose older keywords are overwritten has the same tokens, with each older keyword replaced.
 use Rattle.std.proofs.Common.{◌≡◌, ℕ, zero, suc, ◌-◌, ◌≤◌, ◌⊎◌, Bool, true, false, List, [], ◌∷◌, ◌++◌, length, take, replicate, map, Option, Some, None, refl, sym, ap, subst, ◌∙◌, inl, inr, arith, append_assoc, length-append}
 use Rattle.std.proofs.Math.Seq.{take-append_seam}
 use Rattle.std.proofs.lemmas.Bool.{cond-true, cond-false, and_parts, leb-true, ne_eqb, or_left, or_right}
@@ -18,7 +18,7 @@ use Rattle.wm_read.specs.inner.Renewed.{Renewed, filled, part_for}
 use Rattle.wm_tokens.proofs.Ahead.{IsAhead, IsBlank, ahead_blank, ahead_is_so, ahead_last, ahead_token}
 use Rattle.wm_tokens.proofs.Whole.{ahead_ends, ahead_nil, ahead_skips, ahead_stops, ahead_takes, blank_shorter, first_shorter}
 
--- where older words are not read, all tokens stay
+-- Under Standard, all tokens stay.
 pub standard_stays : (k : List Token) → map (replaced Standard) k ≡ k
 standard_stays [] = refl
 standard_stays (t ∷ k) = ap (λ (z : List Token). t ∷ z) (standard_stays k)
@@ -32,7 +32,7 @@ good a w = is_word a && (is_word w && (list_all is_id_char w && nat_le (length w
 all_good : list_all (λ e. good e.0 e.1) older_words ≡ true
 all_good = refl
 
--- what an atom is read as, and what is written for it
+-- The keyword that an atom is read as, and the bytes that are written for it.
 abbrev IsFoundIn : List (List ℕ × List ℕ) → List ℕ → Type 0
 IsFoundIn es a =
     ((lookup (bytes_eq a) es ≡ None) × (lookup (bytes_eq a) (map (λ e. (e.0, filled e.0 e.1)) es) ≡ None))
@@ -65,7 +65,7 @@ word_is_atom : (w : List ℕ) → is_word w ≡ true → list_all is_id_char w �
 word_is_atom [] h all = absurd (let f : false ≡ true = h in cc)
 word_is_atom (c ∷ w) h all = (all, inr (inr h))
 
--- ---- what may stand before a text
+-- ---- the token before a text
 
 ends_first : (t : Token) (c : ℕ) (x y : List ℕ) → Ends t (c ∷ x) → Ends t (c ∷ y)
 ends_first open_paren c x y h = h
@@ -96,7 +96,7 @@ spaces_skip : (n : ℕ) (r : List ℕ) → lexed (replicate n 32 ++ r) ≡ lexed
 spaces_skip zero r = refl
 spaces_skip (suc n) r = ahead_skips (32 ∷ (replicate n 32 ++ r)) (replicate n 32 ++ r) (sym (ahead_blank (32 ∷ []) (replicate n 32 ++ r) (inl (32, refl, refl)))) ∙ spaces_skip n r
 
--- ---- what stands first, and what is written for it
+-- ---- the first token or white space, and the bytes that are written for it
 
 stays : (b : List ℕ) → lexed b ≡ [] → Renewed b b
 stays b e = record { tokens = e ∙ sym (ap (map (replaced Older)) e); size = refl; ends = λ t h. h }

@@ -1,4 +1,4 @@
--- The rules of identifiers and of order: which fields may stand after what is noted, and what is noted after them.
+-- The rules on identifiers and order: which fields may follow the notes, and the notes after them.
 use Rattle.std.proofs.Common.{◌≡◌, ℕ, zero, suc, ◌≤◌, ◌+◌, ◌⊎◌, Bool, true, false, cond, List, [], ◌∷◌, ◌++◌, length, Option, Some, None, AllPairs, refl, sym, ap, subst, ◌∙◌, inl, inr, arith, append_assoc}
 use Rattle.std.specs.Prelude.{not, ◌&&◌, filter_map, slice_get}
 use Rattle.std.specs.List.{AllByRecursion}
@@ -21,7 +21,7 @@ use Rattle.wm_tokens.proofs.Basics.{chosen, same_some}
 use Rattle.wm_read.proofs.DistinctIds.{distinct_new}
 use Rattle.wm_read.proofs.HeadSteps.{with_item_distinct, with_type_distinct}
 
--- ---- what a field adds, and whether it may stand
+-- ---- what a field adds to the notes, and whether the notes allow it
 
 abbrev pub kind_of : ImportDesc → ExportKind
 kind_of (Func x) = kind.Func
@@ -94,7 +94,7 @@ joined a b = record {
 joined_none : (a : Names) → joined a (names_of []) ≡ a
 joined_none a = simp append-nil
 
--- what is added to a space stands before what is joined
+-- An item that is appended comes before the items that are joined later.
 added_type : (a b : Names) (id : Id) (f : Signature) → joined (with_type a id f) b ≡ joined a (record b { types = id ∷ b.types; signatures = f ∷ b.signatures })
 added_type a b id f = simp append_assoc
 
@@ -254,7 +254,7 @@ defines s (start_field x) h = absurd h
 defines s (element_field e) h = absurd h
 defines s (segment_field d) h = absurd h
 
--- who defined it
+-- Which field set `defined`.
 definer : (s : Noted) (f : Field) → (after s f).defined ≡ true → (s.defined ≡ true) ⊎ IsDefinition f
 definer s (type_field id f) h = inl h
 definer s (import_field id i) h = inl h
@@ -370,7 +370,7 @@ pub record Keeps (fs : List Field) : Type 0 where
   pub one_start : start_count fs ≤ 1
   pub distinct : HasDistinct (names_of fs)
 
--- where no start came before
+-- No start came before.
 from_none : (n : ℕ) → n ≤ 1 → starts nothing + n ≤ 1
 from_none n l = omega (arith, l)
 

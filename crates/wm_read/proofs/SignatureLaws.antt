@@ -1,4 +1,4 @@
--- The types of type fields.
+-- The types of type fields are read exactly as tokens write them.
 use Rattle.std.proofs.Common.{◌≡◌, ℕ, List, [], ◌∷◌, ◌++◌, Some, false, refl, sym, ap, subst, ◌∙◌}
 use Rattle.std.specs.Prelude.{codes}
 use Rattle.wm_syntax.specs.Spelling.{Form}

@@ -1,4 +1,4 @@
--- Tokens passed over where a stretch of white space by itself and plain atoms stands first.
+-- Passing over white space and plain atoms skips just their tokens.
 use Rattle.std.proofs.Common.{◌≡◌, ℕ, ◌<◌, ◌≤◌, List, ◌∷◌, length, refl, sym, ap, ◌∙◌, arith}
 use Rattle.wm_tokens.specs.Tokens.{Token, string, atom}
 use Rattle.wm_tokens.specs.exact.Scan.{after_spaces, ahead, first, lexed}

@@ -1,4 +1,4 @@
--- The fields of a text of which the first reading is done: behind the locals of a function a token is left.
+-- After a successful first pass, a token is left after the locals of each function.
 use Rattle.std.proofs.Common.{◌≡◌, ◌≢◌, ℕ, zero, suc, ◌≤◌, ◌⊎◌, Bool, true, false, cond, List, [], ◌∷◌, ◌++◌, length, Option, Some, None, refl, sym, ap, subst, ◌∙◌, inl, inr, arith, append_assoc, length-append}
 use Rattle.std.proofs.lemmas.List.{append-nil}
 use Rattle.std.specs.Prelude.{codes}
@@ -32,7 +32,7 @@ use Rattle.wm_bodies.proofs.NamedUses.{uses_are_written}
 use Rattle.wm_bodies.proofs.Readers.{Sound, bind_ok, then_sound}
 use Rattle.wm_read.proofs.SignatureLaws.{OfSignature, signature_sound}
 
--- ---- what is read stands in front
+-- ---- the tokens in front write what is read
 
 abbrev Behind : List Token → List Token → Type 0
 Behind j k = (f : List Token) × (j ≡ f ++ k)
@@ -128,14 +128,14 @@ item_past kind s t j k e =
     let is : ◌≡◌ {A = Noted × List Token} (record s { names = with_item s.names kind i.0.0; defined = true }, r.0) (t, k) = same_some _ (t, k) r.2 in
     subst (λ (z : Noted × List Token). Past j z.1) is (over j i.0.1 r.0 (free_behind (space_of s.names kind) j i.0 i.1) (skip_past 0 i.0.1 r.0 r.1))
 
--- of a field of which nothing but a flag is noted
+-- A field that only sets a flag.
 rest_past : (u t : Noted) (j k : List Token) → ◌>>=◌ {B = Noted × List Token} (skip 1 j) (λ r. Some (u, r)) ≡ Some (t, k) → Past j k
 rest_past u t j k e =
     let r = bind_ok (skip 1 j) (λ r. Some (u, r)) (t, k) e in
     let is : ◌≡◌ {A = Noted × List Token} (u, r.0) (t, k) = same_some (u, r.0) (t, k) r.2 in
     subst (λ (z : Noted × List Token). Past j z.1) is (skip_past 0 j r.0 r.1)
 
--- where a rule of order lets it
+-- A rule on order allows it.
 placed : (t : Bool) (o : Option (Noted × List Token)) (x : Noted × List Token) → cond t None o ≡ Some x → o ≡ Some x
 placed true o x e = absurd (let f : ◌≡◌ {A = Option (Noted × List Token)} None (Some x) = e in cc)
 placed false o x e = e
@@ -175,7 +175,7 @@ within_past pr (suc n) s t j k e = elim (chosen (begins_open j) _ (Some (s, j)) 
     more i (f, e) (inr (g, h)) =
         (f ++ close_paren ∷ g, e ∙ ap (λ (z : List Token). f ++ close_paren ∷ z) h ∙ sym (append_assoc f (close_paren ∷ g) (close_paren ∷ k)))
 
--- ---- so the tokens of a text with fields end with theirs
+-- ---- the tokens of a text with fields end with two closing parentheses
 
 close_left : (j : List Token) (x : Unit {0} × List Token) → close_at j ≡ Some x → end_at x.1 ≡ Some tt → j ≡ close_paren ∷ []
 close_left [] x e h = absurd cc
@@ -202,7 +202,7 @@ names_tail pr names k e =
     by r left (inl same) = record { before = close_paren ∷ []; front = []; whole = ap (λ (z : List Token). close_paren ∷ z) (same ∙ left) }
     by r left (inr (f, past)) = record { before = []; front = f; whole = past ∙ ap (λ (z : List Token). f ++ close_paren ∷ z) left }
 
--- ---- what follows a front ends so too
+-- ---- the tokens after a front end likewise
 
 tail_behind : (j k : List Token) → Behind j k → IsTail j → IsTail k
 tail_behind j k (f, e) t = record {
@@ -313,7 +313,7 @@ not_flat k (i, a, e) t =
     by [] e = cc
     by (t ∷ f) e = let size = ap length e in omega (arith, size, length-append f (close_paren ∷ close_paren ∷ []))
 
--- so a token is left behind them
+-- A token is left after a type use and locals.
 pub head_stands : (pr : Profile) (names : Names) (h : (ℕ × List Named) × List Named) (j k : List Token) → function_head_at pr names j ≡ Some (h, k) → IsTail j → k ≢ []
 head_stands pr names h j k e t none =
     let s = then_sound (named_use_at pr names) (named_at pr (codes "local")) (λ y. TypeUse names y.0 y.1) (OfGroups pr (codes "local")) (uses_are_written pr names) (groups_are_written pr (codes "local")) j h k e in

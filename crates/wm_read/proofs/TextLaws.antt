@@ -1,4 +1,4 @@
--- A text is read exactly where its tokens, in these spellings, write a module.
+-- A text is read if and only if its tokens, in these spellings, write a module.
 use Rattle.std.proofs.Common.{◌≡◌, ◌≢◌, ℕ, ◌<◌, true, false, List, [], ◌∷◌, ◌++◌, length, Option, Some, None, map, refl, sym, ap, subst, ◌∙◌, arith}
 use Rattle.std.proofs.lemmas.List.{map-append}
 use Rattle.std.specs.Prelude.{IsTrue, IfErr, Result, Ok, Err}
@@ -84,7 +84,7 @@ end_memory w e = subst (λ (z : TextWhy). IsTrue (can_end z)) (sym e) refl
 
 pub ruleset spelled_laws = (read_itself, read_copy, copy_empty, nothing_left, end_expected, end_memory)
 
--- ---- what readers refuse is no fault of the tokens
+-- ---- refusals of readers are no lexical errors
 
 not_of_readers : (w : TextWhy) → IsOfTokens w → IsOfReaders w → ⊥
 not_of_readers why.OpenComment h r = r
@@ -111,18 +111,18 @@ followed_itself p s text r is h =
     let same : map (replaced s) (lexed text) ≡ lexed text = ap (λ (x : Spellings). map (replaced x) (lexed text)) is ∙ standard_stays (lexed text) in
     subst (λ (z : List Token). IfErr r (λ e. e.why ≢ why.Memory → IsFollowed p z → e.why ≡ why.Expected)) (sym same) h
 
--- what stands there is not refused
+-- Unless memory is refused, a reader does not refuse what it can read.
 pub not_failed : {Y : Type 0} (w : TextWhy) (read : Option Y) (y : Y) → Fails w read → w ≢ why.Memory → read ≡ Some y → ⊥
 not_failed {Y} w read y h n some = let f : ◌≡◌ {A = Option Y} None (Some y) = sym (fails_none w read h n) ∙ some in cc
 
--- nor is the parenthesis behind the names
+-- The module's closing parenthesis is not refused.
 pub closes_names : (p : Profile) (k rest more : List Token) (names given : Names) (w : TextWhy) → names_at p k ≡ Some (given, rest) → names_at p k ≡ Some (names, close_paren ∷ more)
     → Fails w (close_at rest) → w ≢ why.Memory → ⊥
 closes_names p k rest more names given w e f h n =
     let same : ◌≡◌ {A = Names × List Token} (given, rest) (names, close_paren ∷ more) = same_some (given, rest) (names, close_paren ∷ more) (sym e ∙ f) in
     not_failed w (close_at rest) (tt, more) h n (ap (λ (z : Names × List Token). close_at z.1) same)
 
--- and the names are not all, where a token follows
+-- The names of a whole text cannot be read if a token follows the module.
 pub followed_names : (p : Profile) (k j : List Token) (names : Names) → frame_at k ≡ Some j → all_names_at p j ≡ Some names → IsFollowed p k → ⊥
 followed_names p k j names frame all h =
     let same : j ≡ h.inner = same_some j h.inner (sym frame ∙ h.frame) in

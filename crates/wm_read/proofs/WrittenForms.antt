@@ -1,5 +1,5 @@
--- What is so of the tokens of each form that writes a part of a module, where it is so of the tokens that stand
--- in it one by one, and stays so where they are joined or put between parentheses.
+-- A property of the tokens that write any part of a module. It must hold of single tokens, and be kept where token
+-- lists are joined or put in parentheses.
 use Rattle.std.proofs.Common.{◌≡◌, ℕ, Bool, true, false, List, [], ◌∷◌, ◌++◌, Option, Some, None, refl, sym, ap, subst, ◌∙◌, inl, inr}
 use Rattle.std.specs.Prelude.{◌^◌, ℤ, IsTrue, codes, map}
 use Rattle.wm_syntax.specs.Spelling.{Form, Exactly, Each, ◌▸◌}
@@ -26,7 +26,7 @@ use Rattle.wm_tokens.specs.Fields.{WritesName, WritesMax, WritesLimits, WritesTa
 use Rattle.wm_bodies.specs.exact.Reading.{is_word}
 use Rattle.wm_bodies.proofs.PieceLaws.{simple_word}
 
--- So it is of lists of tokens, and of atoms: of words, identifiers and numbers.
+-- B is the property of token lists, and A that of atoms: keywords, identifiers and numbers.
 pub record Closed (B : List Token → Type 0) (A : List ℕ → Type 0) : Type 0 where
   pub nil : B []
   pub join : (f g : List Token) → B f → B g → B (f ++ g)
@@ -37,7 +37,7 @@ pub record Closed (B : List Token → Type 0) (A : List ℕ → Type 0) : Type 0
   pub identifier : (a : List ℕ) → IsIdentifier a → A a
   pub number : (a : List ℕ) → IsNumber a → A a
 
--- literals of floats stand in a text of the profile where it has floats
+-- A text of the profile has float literals only if the profile has floats.
 module _ (B : List Token → Type 0) (A : List ℕ → Type 0) (c : Closed B A) (p : Profile) (float : IsTrue (has p Floats) → (a : List ℕ) → A a) where
   abbrev Keeps : Form Token → Type 0
   Keeps P = (f : List Token) → P f → B f
@@ -264,7 +264,7 @@ module _ (B : List Token → Type 0) (A : List ℕ → Type 0) (c : Closed B A) 
   keeps_offset : (names : Names) (x : Const) → HasConst p x → Keeps (WritesOffset names x)
   keeps_offset names x has = keeps_paren (codes "offset") refl (WritesConst names x) (keeps_const names x has)
 
-  -- what stands between a field's word and its closing parenthesis, where no identifier is defined
+  -- The contents of a field that defines no identifier.
   pub keeps_export : (names : Names) (e : Export) → Keeps (WritesName e.name ▸ WritesExport names e.kind e.index)
   keeps_export names e = keeps_then (WritesName e.name) (WritesExport names e.kind e.index) (keeps_name e.name) (keeps_exported names e.kind e.index)
 

@@ -1,4 +1,4 @@
--- A float, byte by byte and piece by piece of its text.
+-- The bytes of a float one by one, and its text piece by piece.
 use Rattle.std.proofs.Common.{◌≡◌, ◌≢◌, ℕ, zero, suc, ◌+◌, ◌-◌, ◌*◌, ◌/◌, ◌%◌, ◌^◌, ◌<◌, ◌≤◌, Bool, List, [], ◌∷◌, ◌++◌, refl, sym, ap, ◌∙◌, append_assoc, append-nil, arith, cond, eq-eqb, ne_eqb, le-leb}
 use Rattle.std.specs.Prelude.{codes, decimal}
 use Rattle.std.specs.Bool.{◌==◌}
@@ -55,7 +55,7 @@ digits_out k n digit l0 l1 l2 some h before is last =
     last ∙ ap (λ (z : List ℕ). z ++ digit ∷ []) before ∙ append_assoc l0 front (digit ∷ [])
     ∙ ap (λ (d : ℕ). l0 ++ (front ++ d ∷ [])) is ∙ ap (λ (z : List ℕ). l0 ++ z) (sym (more_digits k n some h))
 
--- what is put on a line piece by piece
+-- A line that is appended to piece by piece.
 pub two_pieces : (l0 l1 l2 a b : List ℕ) → l1 ≡ l0 ++ a → l2 ≡ l1 ++ b → l2 ≡ l0 ++ (a ++ b)
 two_pieces l0 l1 l2 a b one two = two ∙ ap (λ (z : List ℕ). z ++ b) one ∙ append_assoc l0 a b
 
@@ -94,7 +94,7 @@ pub normal_text : (n bias e : ℕ) → e ≢ 0 → scaled_text (codes "0x1") n b
 normal_text n bias e h =
     ap (λ (b : Bool). cond b (cond (n == 0) (codes "0x0p+0") (scaled_text (codes "0x0") n bias 1)) (scaled_text (codes "0x1") n bias e)) (sym (ne_eqb e 0 h))
 
--- the cases of what is no number
+-- The cases of an infinity and a NaN.
 pub inf_text : (payload : ℕ) → payload ≡ 0 → codes "inf" ≡ special_text payload
 inf_text payload h = ap special_text (sym h)
 
@@ -108,7 +108,7 @@ no_minus half bits h = ap (λ (b : Bool). 32 ∷ cond b (45 ∷ []) []) (sym (lt
 pub minus : (half bits : ℕ) → half ≤ bits → 32 ∷ 45 ∷ [] ≡ 32 ∷ sign_text half bits
 minus half bits h = ap (λ (b : Bool). 32 ∷ cond b (45 ∷ []) []) (sym (le-leb half bits h))
 
--- what follows the sign
+-- The text after the sign.
 module _ (t : FloatType) (e f : ℕ) where
   pub special_size : e ≡ 2 ^ expon t - 1 → special_text f ≡ size_text t e f
   special_size h =

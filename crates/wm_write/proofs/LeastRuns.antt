@@ -1,4 +1,4 @@
--- No runs of the same locals are shorter than the maximal ones.
+-- No runs of the same locals take fewer bytes than the maximal ones.
 use Rattle.std.proofs.Common.{ℕ, zero, suc, ◌+◌, ◌-◌, ◌/◌, ◌≡◌, ◌<◌, ◌≤◌, List, [], ◌∷◌, ◌++◌, length, Bool, true, false, cond, refl, sym, ◌∙◌, ap, arith, length-append, inl, inr, replicate, flat_map, ◌⊎◌}
 use Rattle.std.proofs.lemmas.Bool.{cases_lt}
 use Rattle.wm_syntax.specs.Leb128.{unsigned_bytes}

@@ -1,4 +1,4 @@
--- What is put on a line.
+-- Text that is appended to a line.
 use Rattle.std.proofs.Common.{◌≡◌, ℕ, zero, suc, ◌≤◌, Bool, true, List, [], ◌∷◌, ◌++◌, length, refl, sym, ap, ◌∙◌, append_assoc, arith, get_or, Some}
 use Rattle.std.specs.Prelude.{nat_le}
 use Rattle.std.specs.List.{list_all}
@@ -38,11 +38,11 @@ const_line c i name l0 l1 l2 l3 is named none space then rest =
     let same : name ≡ (opcode i).1 = cc named in
     e3 ∙ (ap (λ (z : List ℕ). 32 ∷ (z ++ words_text (immediate_words i))) same ∙ ap (λ (z : Simple). words_text (spaced (opcode z).1 ∷ immediate_words z)) is)
 
--- an op whose text is put behind a line
+-- An op whose text is appended to a line.
 pub op_line : (o p : Op) (line new text : List ℕ) → o ≡ p → new ≡ line ++ text → text ≡ words_text (op_words p) → new ≡ line ++ words_text (op_words o)
 op_line o p line new text same put e = put ∙ ap (λ (z : List ℕ). line ++ z) (e ∙ ap (λ (z : Op). words_text (op_words z)) (sym same))
 
--- the same in two parts
+-- An op whose text is appended in two parts.
 pub op_line_in_two : (o p : Op) (line then new name rest : List ℕ) → o ≡ p → then ≡ line ++ name → new ≡ then ++ rest → name ++ rest ≡ words_text (op_words p)
     → new ≡ line ++ words_text (op_words o)
 op_line_in_two o p line then new name rest same one two e =

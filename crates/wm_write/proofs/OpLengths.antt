@@ -1,4 +1,4 @@
--- The bytes of ops are as many as wm_syntax counts.
+-- `wm_syntax` counts the bytes of ops exactly.
 use Rattle.std.proofs.Common.{◌≡◌, ◌+◌, List, [], ◌∷◌, length, refl, sym, ap, ◌∙◌, length-append, arith}
 use Rattle.std.proofs.lemmas.List.Sums.{sum_by-cons}
 use Rattle.wm_syntax.specs.Lengths.{immediates_len, op_len, ops_len}

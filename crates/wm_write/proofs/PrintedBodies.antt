@@ -1,4 +1,4 @@
--- What is printed of a body is a text of it.
+-- The printed text of a body writes it.
 use Rattle.std.proofs.Common.{◌≡◌, ℕ, ◌<◌, ◌≤◌, ◌^◌, Bool, true, false, List, [], ◌∷◌, ◌++◌, length, map, flat_map, Option, Some, None, refl, sym, ap, subst, ◌∙◌, inl, inr, arith, append_assoc, slice_get, lit<, ℤ, pos, negsuc}
 use Rattle.std.specs.Prelude.{◌&&◌, codes}
 use Rattle.std.proofs.Math.Nat.{pow-le-pow_right}
@@ -108,7 +108,7 @@ g_prefix = record { first = 103; rest = []; is = refl; chars = refl }
 abbrev pub Numbers : List ℕ → Ids → ℕ → Type 0
 Numbers prefix ids n = (x : ℕ) → x < n → slice_get ids x ≡ Some (id_at prefix x)
 
--- what a module has defined, with the identifiers that are printed
+-- The definitions of a module, with the identifiers that are printed.
 pub record HasNames (names : Names) (c : Counts) : Type 0 where
   pub signatures : (x : ℕ) → x < c.types → (f : Signature) × (slice_get names.signatures x ≡ Some f)
   pub types : Numbers (codes "$t") names.types c.types

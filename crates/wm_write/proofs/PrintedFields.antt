@@ -1,4 +1,4 @@
--- What is printed of a field is a text of it.
+-- The printed text of a field writes it.
 use Rattle.std.proofs.Common.{◌≡◌, ℕ, zero, suc, ◌<◌, ◌^◌, Bool, true, false, List, [], ◌∷◌, ◌++◌, length, map, Option, Some, None, refl, sym, ap, inr, slice_get}
 use Rattle.std.specs.Prelude.{IfSome, IsUtf8, codes}
 use Rattle.std.specs.List.{AllByRecursion}
@@ -127,13 +127,13 @@ pub record AreSmall (before : List Import) : Type 0 where
   pub memories : (places before).memories < 2 ^ 64
   pub globals : (places before).globals < 2 ^ 64
 
--- what a module defines, with all that its text names
+-- The definitions of a module, with all identifiers of its text.
 pub record HasAllNames (names : Names) (c : Counts) (ts ms : ℕ) : Type 0 where
   pub body : HasNames names c
   pub tables : Numbers (codes "$tab") names.tables ts
   pub memories : Numbers (codes "$mem") names.memories ms
 
--- what an import is, in its ranges
+-- An import descriptor whose numbers are in range.
 abbrev pub IsFineDesc : Counts → ImportDesc → Type 0
 IsFineDesc c (Func x) = IsU32 x × (x < c.types)
 IsFineDesc c (Table x) = AreLimits x

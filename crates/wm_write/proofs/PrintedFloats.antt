@@ -164,7 +164,7 @@ places_more k n q r b le lt less e h =
 no_times : (x : ℕ) → 0 * x ≡ 0
 no_times x = omega arith
 
--- of a number of k digits, with zeros behind them
+-- The digits of a number of k digits, followed by zeros.
 pub places_are : (k a : ℕ) → k ≤ 13 → a < 16 ^ k → IsPlaces k (a * 16 ^ (13 - k)) (places k (a * 16 ^ (13 - k)))
 places_are zero a le few = no_places 0 (a * 16 ^ 13) (ap (λ (x : ℕ). x * 16 ^ 13) (let z : a ≡ 0 = omega (arith, few) in z))
 places_are (suc k) a le few = by a refl (λ r less. places_are k r (omega (arith, le)) less)
@@ -267,7 +267,7 @@ in_units x y u s len up down b e t Y a c d =
     sym (pow-add 2 up b) ∙ ap (λ z. 2 ^ z) d ∙ pow-add 2 (s + e) down ∙ ap (λ z. z * 2 ^ down) (pow-add 2 s e) in
     omega (arith, ap (λ z. x * z) p, ap (λ z. z * (2 ^ e * 2 ^ down)) k)
 
--- what the two widths have in common
+-- The properties that both widths share.
 pub record Shape (w : FloatType) : Type 0 where
   pub bias : ℕ
   pub bias_is : bias ≡ 2 ^ (expon w - 1) - 1

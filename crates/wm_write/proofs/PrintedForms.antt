@@ -1,4 +1,4 @@
--- Printed words that stand for tokens of a form.
+-- Printed words whose tokens are of a form.
 use Rattle.std.proofs.Common.{◌≡◌, ℕ, ◌<◌, ◌^◌, true, false, List, [], ◌∷◌, ◌++◌, map, flat_map, Some, refl, sym, ap, subst, ◌∙◌, inl, inr, arith, append_assoc, ℤ, ◌-◌, slice_get}
 use Rattle.std.specs.Prelude.{◌==◌, ◌+◌, ◌*◌, codes, decimal}
 use Rattle.std.specs.Fmt.{signed_decimal}
@@ -23,7 +23,7 @@ use Rattle.wm_write.specs.inner.Printed.{token_of, tokens}
 use Rattle.wm_write.proofs.PrintedNumbers.{decimal_printed, decimal_text, signed_text, signed_chars, signed_number}
 use Rattle.wm_write.proofs.PrintedTokens.{IsBreak, IsHead, Stands, atom_good, block_stands, both_stand, form_stands, gap_breaks, good_stands, none_stand, number_good, string_good}
 
--- These words stand for tokens of this form, whatever words follow.
+-- The tokens of these words are of this form, whatever words follow.
 pub record Prints (W : Form Token) (ws : List Word) : Type 0 where
   pub stands : Stands ws
   pub writes : W (tokens ws)
@@ -125,7 +125,7 @@ prints_key c key usual n chars low lt = cond_both (n == usual) [] (spaced ((c �
 
 -- ---- identifiers of items
 
--- what identifiers begin with
+-- A prefix of identifiers.
 pub record IsPrefix (prefix : List ℕ) : Type 0 where
   pub first : ℕ
   pub rest : List ℕ
@@ -142,7 +142,7 @@ item_atom prefix i h lt =
 abbrev pub id_at : List ℕ → ℕ → Id
 id_at prefix i = Some (prefix ++ decimal i)
 
--- where it is defined, and where it is used
+-- An identifier where it is defined, and where it is used.
 pub prints_id : (prefix : List ℕ) (i : ℕ) → IsPrefix prefix → i < 2 ^ 64 → Prints (WritesId (id_at prefix i)) (name prefix i ∷ [])
 prints_id prefix i h lt = prints_atom gap (prefix ++ decimal i) gap_breaks (item_atom prefix i h lt) (item_name_is prefix i h lt, refl)
 

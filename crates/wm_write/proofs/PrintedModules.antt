@@ -1,4 +1,4 @@
--- A whole module, printed.
+-- Printing a whole module.
 use Rattle.std.proofs.Common.{◌≡◌, ℕ, ◌+◌, ◌≤◌, ◌^◌, Bool, true, false, List, [], ◌∷◌, ◌++◌, length, take, map, flat_map, Option, Some, None, refl, sym, ap, ◌∙◌, append_assoc, arith, lit<}
 use Rattle.std.specs.Prelude.{◌&&◌, codes, if◌then◌else◌, is_none, nat_le}
 use Rattle.std.specs.Bool.{◌==◌}
@@ -106,12 +106,12 @@ functions_printable m [] h = refl
 functions_printable m (f ∷ fs) h =
     ap (λ z. z && list_all is_function_printable fs) (body_printable _ f.body [] _ h.0.2) ∙ functions_printable m fs h.1
 
--- so has a module that was loaded
+-- A loaded module has such alignments.
 pub loaded_printable : (m : Module) → ∥ IsLoaded m ∥₁ → list_all is_function_printable m.functions ≡ true
 loaded_printable m l = is_true (list_all is_function_printable m.functions)
     (λ e. ∥∥₁_elim l (λ x y. absurd x) (λ h. let k = functions_printable m m.functions h.loads.valid.functions in cc))
 
--- what any value has
+-- A property that all values have.
 pub all_of : {X : Type 0} (p : X → Bool) → ((x : X) → p x ≡ true) → (xs : List X) → list_all p xs ≡ true
 all_of p h [] = refl
 all_of p h (x ∷ xs) = ap (λ z. z && list_all p xs) (h x) ∙ all_of p h xs
@@ -195,7 +195,7 @@ nil_start : (x : Option ℕ) → nil (start_field x) ≡ is_none x
 nil_start None = refl
 nil_start (Some x) = refl
 
--- so the fields have words exactly where a module has a part
+-- The fields have words if and only if a module has a part.
 grouped : (a b c d e f g h i j : Bool) → (a && b && c && d && e && f && g && h && i && j) ≡ (a && (b && (c && (d && (e && (f && (g && (h && (i && j)))))))))
 grouped a b c d e f g h i j = simp and_assoc
 
@@ -245,7 +245,7 @@ pub ends_line : (m : Module) → is_empty_module m ≡ false → 10 ∷ 41 ∷ 1
 ends_line m h =
     sym (ap (λ (z : List ℕ). z ++ 41 ∷ 10 ∷ []) (line_of (field_words m)) ∙ ap (λ (z : Bool). (if z then [] else 10 ∷ []) ++ 41 ∷ 10 ∷ []) (sym (empty_fields m) ∙ h))
 
--- what a writer that had not failed was given
+-- The bytes that went out, for a writer that has not failed.
 pub sent_out : (bytes : List ℕ) (f g : Bool) (c d : Option (List ℕ)) (w v : ℕ) → f ≡ false → g ≡ false → Sent bytes (f, c, w) (g, d, v) → Appends c d bytes
 unfolding Sent
 sent_out bytes false false c d w v h k s = s.0

@@ -1,4 +1,4 @@
--- Printed numbers are texts of them.
+-- The printed text of a number writes it.
 use Rattle.std.proofs.Common.{◌≡◌, ℕ, zero, suc, ◌<◌, ◌≤◌, ◌+◌, ◌-◌, ◌*◌, ◌/◌, ◌%◌, true, List, [], ◌∷◌, ◌++◌, Some, refl, sym, ap, subst, ◌∙◌, inl, inr, arith, append_assoc}
 use Rattle.std.specs.Prelude.{◌&&◌, decimal, fold, nat_le, ◌^◌, ℤ, pos, negsuc}
 use Rattle.std.specs.Fmt.{signed_decimal}

@@ -100,7 +100,7 @@ defined_in m = functions_in m ++ (tables_in m ++ (memories_in m ++ (globals_in m
 unfoldable pub fields_in : Module → List Field
 fields_in m = types_in m ++ (imports_from [] m.imports ++ defined_in m)
 
--- ---- what the fields have of each kind
+-- ---- the fields of each kind
 
 none_in : {X Y : Type 0} (p : Field → Option Y) (field : X → Field) → ((x : X) → p (field x) ≡ None) → (xs : List X) → filter_map p (map field xs) ≡ []
 none_in p field h [] = refl
@@ -163,7 +163,7 @@ module _ {Y : Type 0} (p : Field → Option Y) (m : Module) where
   no_globals : ((id : Id) (x : GlobalDef) → p (global_field id x) ≡ None) → filter_map p (globals_in m) ≡ []
   no_globals h = no_part p (codes "$g") global_field h (places m.imports).globals m.globals
 
-  -- of the parts that define nothing
+  -- For the parts that define nothing.
   rest_is : (h i j k : List Y) → filter_map p (map export_field m.exports) ≡ h → filter_map p (start_fields m.start) ≡ i → filter_map p (map element_field m.elements) ≡ j → filter_map p (map segment_field m.segments) ≡ k
       → filter_map p (rest_of m) ≡ h ++ (i ++ (j ++ k))
   rest_is h i j k ph pi pj pk = joined p (map export_field m.exports) _ h _ ph (joined p (start_fields m.start) _ i _ pi (joined p (map element_field m.elements) _ j k pj pk))
@@ -171,7 +171,7 @@ module _ {Y : Type 0} (p : Field → Option Y) (m : Module) where
   no_rest : ((x : Export) → p (export_field x) ≡ None) → ((x : ℕ) → p (start_field x) ≡ None) → ((x : Element) → p (element_field x) ≡ None) → ((x : Segment) → p (segment_field x) ≡ None) → filter_map p (rest_of m) ≡ []
   no_rest e s l g = rest_is [] [] [] [] (none_in p export_field e m.exports) (no_start p s m.start) (none_in p element_field l m.elements) (none_in p segment_field g m.segments)
 
-  -- of all parts
+  -- For all parts.
   gathered : (a b c d e g k : List Y)
       → filter_map p (types_in m) ≡ a → filter_map p (imports_from [] m.imports) ≡ b → filter_map p (functions_in m) ≡ c → filter_map p (tables_in m) ≡ d
       → filter_map p (memories_in m) ≡ e → filter_map p (globals_in m) ≡ g → filter_map p (rest_of m) ≡ k
@@ -181,7 +181,7 @@ module _ {Y : Type 0} (p : Field → Option Y) (m : Module) where
       joined p (types_in m) _ a _ pa (joined p (imports_from [] m.imports) _ b _ pb (joined p (functions_in m) _ c _ pc (joined p (tables_in m) _ d _ pd (joined p (memories_in m) _ e _ pe
       (joined p (globals_in m) (rest_of m) g k pg pk)))))
 
-  -- where what defines something has none
+  -- Parts that define something have none.
   in_rest : ((id : Id) (x : Signature) → p (type_field id x) ≡ None) → ((id : Id) (x : Import) → p (import_field id x) ≡ None) → ((id : Id) (x : Function) → p (function_field id x) ≡ None)
       → ((id : Id) (x : Limits) → p (table_field id x) ≡ None) → ((id : Id) (x : Limits) → p (memory_field id x) ≡ None) → ((id : Id) (x : GlobalDef) → p (global_field id x) ≡ None)
       → (k : List Y) → filter_map p (rest_of m) ≡ k → filter_map p (fields_in m) ≡ k
@@ -362,7 +362,7 @@ global_hit before i = by i.desc
     by (Memory x) = inr (refl, refl)
     by (Global x) = inl (x, refl, refl)
 
--- those of the imports, and then those of a part
+-- The identifiers of the imports, and then of the definitions.
 ids_joined : (prefix : List ℕ) (n k : ℕ) → numbered prefix 0 n ++ (numbered prefix n k ++ []) ≡ numbered prefix 0 (n + k)
 ids_joined prefix n k =
     ap (λ z. numbered prefix 0 n ++ z) (append-nil (numbered prefix n k)) ∙ ap (λ z. numbered prefix 0 n ++ numbered prefix z k) (let e : n ≡ 0 + n = omega arith in e) ∙ numbered_join prefix 0 n k
@@ -399,7 +399,7 @@ global_ids_found m = gathered (id_in kind.Global) m [] (numbered (codes "$g") 0 
     ∙ ids_joined (codes "$g") (length (filter_map imported_global m.imports)) (length m.globals)
     ∙ ap (λ z. numbered (codes "$g") 0 z) (sym (length-append (filter_map imported_global m.imports) (map (λ g. g.ty) m.globals) ∙ ap (λ z. length (filter_map imported_global m.imports) + z) (length-map m.globals (λ g. g.ty))))
 
--- what the text of the module defines
+-- The names that the text of the module defines.
 abbrev pub names_for : Module → Names
 names_for m = record {
   signatures = m.types;

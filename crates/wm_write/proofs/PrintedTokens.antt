@@ -1,4 +1,4 @@
--- The tokens of a printed text: each word is one, since what stands behind it ends it.
+-- The tokens of a printed text: each word is one token, since the text after it ends it.
 use Rattle.std.proofs.Common.{◌≡◌, ℕ, zero, suc, ◌<◌, ◌+◌, ◌*◌, ◌/◌, ◌%◌, ◌^◌, true, false, List, [], ◌∷◌, ◌++◌, map, flat_map, Some, refl, sym, ap, subst, ◌∙◌, inl, inr, arith, append_assoc, IsAscii}
 use Rattle.std.specs.Prelude.{◌==◌, ◌&&◌, ◌||◌, codes, decimal, nat_le, nat_lt, not}
 use Rattle.std.specs.List.{list_all, list_any}
@@ -47,7 +47,7 @@ chars_ascii (c ∷ a) h = let p = and_parts (is_id_char c) (list_all is_id_char 
 
 -- ---- words
 
--- what the text of the words is, with the line feed behind it
+-- The text of words, followed by a line feed.
 abbrev pub whole : List Word → List ℕ
 whole ws = words_text ws ++ 10 ∷ []
 

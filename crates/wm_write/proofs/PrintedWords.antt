@@ -19,11 +19,11 @@ use Rattle.wm_write.specs.exact.Printing.{item_front}
 use Rattle.wm_write.specs.exact.Writing.{Sent, State}
 use Rattle.wm_write.proofs.Writes.{sent_none, sent_nothing, sent_then}
 
--- the same bytes
+-- Equal bytes.
 pub sent_same : (a b : List ℕ) (s t : State) → a ≡ b → Sent a s t → Sent b s t
 sent_same a b s t e h = subst (λ z. Sent z s t) e h
 
--- the same value
+-- Equal values.
 pub sent_seen : {V : Type 0} (f : V → List Word) (a b : V) (s t : State) → a ≡ b → Sent (words_text (f a)) s t → Sent (words_text (f b)) s t
 sent_seen f a b s t e h = subst (λ z. Sent (words_text (f z)) s t) e h
 
@@ -52,7 +52,7 @@ sent_parens before head words after s t u v h k l =
     sent_same _ _ s v (sym (parens_text before head words after))
     (sent_then (before ++ 40 ∷ head) (words_text words ++ (after ++ 41 ∷ [])) s t v h (sent_then (words_text words) (after ++ 41 ∷ []) t u v k l))
 
--- the same where the first of them is a name
+-- Parentheses whose first word is a name.
 named_text : (before head prefix : List ℕ) (n : ℕ) (rest : List Word)
     → (before ++ 40 ∷ head) ++ words_text (name prefix n ∷ rest) ≡ ((before ++ 40 ∷ (head ++ 32 ∷ prefix)) ++ decimal n) ++ words_text rest
 named_text before head prefix n rest = simp append_assoc
@@ -93,7 +93,7 @@ module _ {X : Type 0} where
       ∙ (sym (flat_map-append f (take i xs) (get_or xs i d ∷ [])) ∙ ap (flat_map f) (sym (take_more xs i d few))) in
       subst (λ z. Sent (words_text z) s u) e (sent_words (flat_map f (take i xs)) (f (get_or xs i d)) s t u h k)
 
-  -- the same of values by their places
+  -- One more of them, with indices.
   numbered_more : (f : ℕ × X → List Word) (n : ℕ) (xs : List X) (i : ℕ) (d : X) → i < length xs
       → flat_map f (enumerate_from n (take (suc i) xs)) ≡ flat_map f (enumerate_from n (take i xs)) ++ f (n + i, get_or xs i d)
   numbered_more f n [] i d h = absurd (omega arith)
@@ -191,7 +191,7 @@ some_locals before head [] n s t u v is h k l m = absurd (h is)
 some_locals before head (x ∷ xs) n s t u v is h k l m =
     sent_parens before head (map type_word (x ∷ xs)) [] s t u v k (subst (λ z. Sent (words_text (map type_word z)) t u) (expanded (x ∷ xs)) l) m
 
--- what an export gives out
+-- An export descriptor.
 pub sent_item : (kind : ExportKind) (x : ℕ) (front : List ℕ) (s t u : State) → front ≡ item_front kind → Sent (front ++ decimal x) s t → Sent (41 ∷ []) t u
     → Sent (words_text (item_words kind x)) s u
 sent_item kind.Func x front s t u is h k =

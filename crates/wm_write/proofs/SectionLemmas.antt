@@ -9,7 +9,7 @@ use Rattle.wm_syntax.proofs.NumberLoops.{short}
 use Rattle.wm_write.proofs.Writes.{sent_none, sent_then}
 
 module _ {X : Type 0} (id : ℕ) (f : X → List ℕ) where
-  -- the same of a list that is equal
+  -- A section of an equal list.
   pub at_section : (xs ys : List X) (s t : State) → xs ≡ ys → Sent (list_section id f xs) s t → Sent (list_section id f ys) s t
   at_section xs ys s t e h = subst (λ z. Sent (list_section id f z) s t) e h
 

@@ -129,7 +129,7 @@ block_type t = exactly (block_byte t ∷ [])
 equal : (a c : List ℕ) (P : Form ℕ) → a ≡ c → NoLonger c P → NoLonger a P
 equal a c P e f b h = omega (arith, ap length e, f b h)
 
--- what stands between a first byte with a block type and an end
+-- The bytes between a first byte with a block type and an end.
 between : (byte : ℕ) (t : Option ValType) (a : List ℕ) (P : Form ℕ) → NoLonger a P → NoLonger (byte ∷ block_byte t ∷ (a ++ 0x0B ∷ [])) (Byte byte ▸ SpellsBlockType t ▸ P ▸ Byte 0x0B)
 between byte t a P f =
     then (byte ∷ []) (block_byte t ∷ (a ++ 0x0B ∷ [])) (Byte byte) (SpellsBlockType t ▸ P ▸ Byte 0x0B) (exactly (byte ∷ []))

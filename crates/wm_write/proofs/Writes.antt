@@ -1,4 +1,4 @@
--- What is written piece by piece.
+-- Writing bytes piece by piece.
 use Rattle.std.proofs.Common.{◌≡◌, ℕ, zero, suc, ◌+◌, ◌^◌, ◌≤◌, ◌<◌, Bool, true, false, List, [], ◌∷◌, ◌++◌, length, take, flat_map, refl, sym, ap, ◌∙◌, append_assoc, append-nil, length-append, arith, get_or, Option, Some, None, subst}
 use Rattle.std.proofs.lemmas.List.{take-append-le, take_more, flat_map_more}
 use Rattle.std.specs.Io.KnownBytes.{Appends}
@@ -43,7 +43,7 @@ sent_some bytes n false true c d w v h k few out counted = (n, few, out, λ belo
 sent_some bytes n false false c d w v h k few out counted = let e : ⊥ = cc k in absurd e
 sent_some bytes n true g c d w v h k few out counted = let e : ⊥ = cc h in absurd e
 
--- what a writer that had not failed was given, and how much of that was counted
+-- The bytes that went out and the count, for a writer that has not failed.
 pub sent_whole : (bytes : List ℕ) (f g : Bool) (c d : Option (List ℕ)) (v : ℕ)
     → f ≡ false → g ≡ false → length bytes < 2 ^ 64 → Sent bytes (f, c, 0) (g, d, v) → (v ≡ length bytes) × Appends c d bytes
 unfolding Sent
@@ -88,7 +88,7 @@ sent_then front back (false, c0, w0) (true, c1, w1) (true, c2, w2) (n, few, some
 pub sent_byte : (byte : ℕ) (back : List ℕ) (s t u : State) → Sent (byte ∷ []) s t → Sent back t u → Sent (byte ∷ back) s u
 sent_byte byte back s t u h k = sent_then (byte ∷ []) back s t u h k
 
--- bytes of which the last are held back
+-- Bytes whose last ones are held back.
 pub held_first : (held : List ℕ) (s : State) → held ≡ [] → SentBut held [] s s
 held_first held s h = ([], h, sent_none s)
 

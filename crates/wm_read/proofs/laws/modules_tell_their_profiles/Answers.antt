@@ -7,7 +7,7 @@ use Rattle.wm_tokens.specs.Fields.{Writes}
 use Rattle.wm_tokens.specs.Tokens.{Token}
 use Rattle.wm_read.proofs.laws.modules_tell_their_profiles.Goals as goal
 
--- but for what the module is of, nothing in a text depends on the profile
+-- Only `IsOf` depends on the profile.
 written_under : (p q : Profile) (k : List Token) (m : Module) → Writes p k m → IsOf q m → Writes q k m
 written_under p q k m h of = record {
   id = h.id;

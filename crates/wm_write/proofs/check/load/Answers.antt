@@ -1,4 +1,4 @@
--- What the name of a refusal says is said of the bytes.
+-- The bytes are as the name of the refusal says.
 use Rattle.std.proofs.Common.{rules, arith, ◌^◌}
 use Rattle.wm_decode.proofs.DecoderCalls.{are_bytes}
 use Rattle.wm_rules.proofs.Verdicts.{meaning_of}

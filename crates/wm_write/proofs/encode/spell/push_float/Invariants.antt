@@ -2,7 +2,7 @@ use Rattle.std.proofs.Common.{◌≡◌, ◌≤◌, ◌+◌, ◌-◌, ◌++◌, 
 use Rattle.wm_syntax.specs.Instructions.{float_bytes}
 use Rattle.wm_write.proofs.encode.spell.push_float.Given as goal
 
--- what went out, and what is left of the bits in the bytes that are left, are the float
+-- The bytes in the batch, then the remaining bits in the remaining bytes, are the float.
 abbrev pub invariant-loop : goal.invariant-loop
 invariant-loop l = record {
   room : length l.batch + (l.width - l.counter) ≤ length l.fn.batch + l.width;

@@ -2,7 +2,7 @@ use Rattle.std.proofs.Common.{◌≡◌, ◌<◌, ◌≤◌, ◌+◌, ◌-◌, �
 use Rattle.wm_write.specs.FloatText.{places}
 use Rattle.wm_write.proofs.print.float_text.push_places.Given as goal
 
--- what went out, and the digits that are left
+-- The digits on the line, then the remaining ones, are all digits.
 abbrev pub invariant-loop : goal.invariant-loop
 invariant-loop l = record {
   few : l.rest < 16 ^ 13;

@@ -3,7 +3,7 @@ use Rattle.wm_write.specs.Layout.{type_word, words_text}
 use Rattle.wm_write.specs.exact.Writing.{Sent}
 use Rattle.wm_write.proofs.print.words.put_run.Given as goal
 
--- so many of them went out
+-- As many types went out as the counter says.
 abbrev pub invariant-loop : goal.invariant-loop
 invariant-loop g l =
     Sent (words_text (map type_word (replicate l.counter l.ty))) (g.W.Dest.has_failed l.fn.w, g.W.Dest.contents l.fn.w, l.fn.written)
