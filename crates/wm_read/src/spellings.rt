@@ -1,4 +1,4 @@
-//! Which keywords a text may use.
+//! `Spellings`: the standard's keywords alone, or older ones too.
 
 /// Which keywords a text may use.
 #[derive(Clone, Copy, PartialEq, Eq, Debug)]

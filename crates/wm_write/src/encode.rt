@@ -36,7 +36,7 @@ pub enum WriteFault {
     Io { written: u64 },
 }
 
-/// Writes the canonical binary of a module, and returns its length in bytes. It allocates no memory.
+/// Writes the canonical binary of a module, and returns its length in bytes. Core spec 5.5.15. It allocates no memory.
 /// Fails with `TooLarge` if and only if a section does not fit, and with `Io` if the writer fails.
 /// Each number and name is one `put`, and instructions go out in batches. A slow writer needs a buffer.
 pub fn encode<W: Dest>(m: &Module, w: &mut W) -> Result<u64, WriteFault>

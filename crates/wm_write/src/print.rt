@@ -34,7 +34,7 @@ pub enum PrintFault {
     Io,
 }
 
-/// Writes the text of a loaded module. It allocates no memory. Fails with `Io` if the writer fails.
+/// Writes the text of a loaded module. Core spec 6.6.13. It allocates no memory. Fails with `Io` if the writer fails.
 /// Each instruction is one `put`, and each other word one or two. A slow writer needs a buffer.
 pub fn print<W: Dest>(checked: &Checked, w: &mut W) -> Result<(), PrintFault>
     requires open { W.has_failed w.old ≡ false }

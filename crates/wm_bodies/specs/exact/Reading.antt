@@ -29,6 +29,7 @@ use Rattle.wm_tokens.specs.Written.{Scope}
 use Rattle.wm_bodies.specs.inner.Pieces.{Opened, labels, Piece, plain, jump, opens, middle, closes, after}
 use Rattle.wm_bodies.specs.inner.Pieces.{piece_ops}
 
+-- A reader: from tokens to a value and the tokens after it, or None.
 abbrev pub Reader : Type 0 → Type 0
 Reader X = List Token → Option (X × List Token)
 

@@ -24,6 +24,7 @@ Opened = List Open
 abbrev pub labels : Opened → Ids
 labels bs = map (λ b. b.id) bs
 
+-- A piece: an instruction without a nested list, a br_table, or the start, else or end of a block.
 pub data Piece : Type 0 where
   plain : Simple → Piece
   jump : List ℕ → ℕ → Piece
