@@ -65,7 +65,7 @@ label_took p q r ls i d lt e g = ap (place_after p) (labels_so_far ls i d lt) �
 
 -- ---- a piece
 
--- an else stands in the first list of an if, and an end in a block
+-- An else may come only if the innermost block allows it, and an end only in a block.
 abbrev pub IsNext : Opened → Piece → Type 0
 IsNext [] middle = ⊥
 IsNext (b ∷ bs) middle = b.may_else ≡ true

@@ -207,7 +207,7 @@ group_shrinks pr word front new j k e = rest_shorter word (types_at pr) (OfUnnam
 pub types_from : (ts us : List ValType) → ts ≡ us → same_types ts us ≡ true
 types_from ts us e = ap (same_types ts) (sym e) ∙ types_same ts
 
--- as the code compares lists
+-- The comparison of lists in the code.
 pub same_of : (b : Bool) (ts us : List ValType) → ((b ≡ true) ↔ (ts ≡ us)) → b ≡ same_types ts us
 same_of true ts us h = sym (types_from ts us (h.0 refl))
 same_of false ts us h = sym (false_from_ne_true (same_types ts us) (λ e. let f : false ≡ true = h.1 (same_types_are ts us e) in cc))

@@ -117,7 +117,7 @@ pub key_more : (key d : List ℕ) → after_key key (key ++ d) ≡ Some d
 key_more [] d = refl
 key_more (c ∷ key) d = cond-true (c == c) _ _ (eq-eqb c c refl) ∙ key_more key d
 
--- no atom with this key stands first
+-- The first token is no atom with this key.
 abbrev pub NotKey : List ℕ → List Token → Type 0
 NotKey key (atom a ∷ k) = after_key key a ≡ None
 NotKey key _ = Unit {0}
@@ -292,7 +292,7 @@ type_found pr a t e =
 pub type_more : (pr : Profile) (a : List ℕ) (t : ValType) → IsType pr t a → type_of pr a ≡ Some t
 type_more pr a t (e, of) = bind_is (type_named a) _ t (named_more a t e) ∙ cond-true (has pr (type_feature t)) (Some t) None of
 
--- as the code reads a word
+-- The code's reader of a value type.
 pub type_has : (pr : Profile) (a : List ℕ) (t : ValType) → Some t ≡ type_named a → has pr (type_feature t) ≡ true → Some t ≡ type_of pr a
 type_has pr a t e h = sym (bind_is (type_named a) _ t (sym e) ∙ cond-true (has pr (type_feature t)) (Some t) None h)
 

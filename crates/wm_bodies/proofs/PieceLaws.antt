@@ -434,7 +434,7 @@ module _ (use_at : Reader ℕ) (sc : Scope) (use_sound : Sound use_at (UnnamedTy
   class_sound (op.BrTable n) w e h = kind_sound k.BrTable w (some_word (codes "br_table") w e) tt
   class_sound (op.Label l) w e h = absurd (let f : ◌≡◌ {A = Option (List ℕ)} None (Some w) = e in cc)
 
-  -- a piece that is read stands in front
+  -- The tokens in front write the piece that is read.
   pub piece_sound : (w : List ℕ) → Sound (piece_at use_at p sc bs w) (λ q front. WritesPiece sc bs q (atom w ∷ front) × IsPieceOf p q)
   unfolding piece_at
   piece_sound w k q rest e = elim (named_has p w) [
@@ -493,7 +493,7 @@ module _ (use_at : Reader ℕ) (sc : Scope) (use_sound : Sound use_at (UnnamedTy
     class_complete n middle front rest h of f = middle_complete sc bs front rest n h (follow_id rest f)
     class_complete n closes front rest h of f = closes_complete sc bs front rest n h (follow_id rest f)
 
-    -- a piece that stands in front is read
+    -- A piece that the tokens in front write is read.
     pub piece_complete : AreNames bs → (q : Piece) (front rest : List Token) → WritesPiece sc bs q front → IsPieceOf p q → Follow rest
         → (w : List ℕ) × (more : List Token) × (front ≡ atom w ∷ more) × (piece_at use_at p sc bs w (more ++ rest) ≡ Some (q, rest))
     unfolding piece_at

@@ -165,7 +165,7 @@ many_complete (suc n) goes r P F p begins follow (x ∷ xs) front rest lt (a, b,
     ∙ bind_is (r (a ++ (b ++ rest))) _ (x, b ++ rest) (p x a (b ++ rest) h (follow xs b rest more g))
     ∙ bind_is (many_at n goes r (b ++ rest)) _ (xs, rest) (many_complete n goes r P F p begins follow xs b rest (omega (arith, size, length-append a b, start.1, lt)) more g)
 
--- as the code compares bytes
+-- The comparison of bytes in the code.
 pub same_from : (a b : List ℕ) → a ≡ b → same_bytes a b ≡ true
 same_from a b e = ap (same_bytes a) (sym e) ∙ is_same a
 

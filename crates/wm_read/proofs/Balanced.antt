@@ -1,4 +1,4 @@
--- The parentheses of a field's tokens balance, so skipping ends behind the field.
+-- The parentheses of a field's tokens balance, so skipping ends right after the field.
 use Rattle.std.proofs.Common.{◌≡◌, ℕ, suc, Bool, true, List, [], ◌∷◌, ◌++◌, refl, ap, ◌∙◌, append_assoc}
 use Rattle.std.specs.Prelude.{IsTrue}
 use Rattle.wm_syntax.specs.Spelling.{Form, Each, ◌▸◌}

@@ -81,7 +81,7 @@ plain_use : (names : Names) (x : ℕ) (ps : List Named) → Plain (TypeUse names
 plain_use names x ps f rest (g, qs, rs, look, (a, b, e, h, more), which) =
     subst NotId (sym (ap (λ (z : List Token). z ++ rest) e ∙ append_assoc a b rest)) (plain_paren (codes "type") (Resolves names.types x) a (b ++ rest) h)
 
--- ---- heads behind their words
+-- ---- heads after their keywords
 
 -- The answer for an optional identifier.
 free_is : (s : Noted) (id : Id) (Q : Form Token) → Plain Q → (ids : List Id) (x rest : List Token) → (w : (WritesId id ▸ Q) x)
@@ -123,7 +123,7 @@ Imported s kind id rest = cond (is_new (space_of s.names kind) id) (Some (record
 abbrev skipped : Option (Noted × List Token) → Option (Noted × List Token)
 skipped o = o >>= λ d. skip 2 d.1 >>= λ r. Some (d.0, r)
 
--- behind the kind of what is brought in
+-- An import descriptor after its keyword.
 abbrev kind_head_at : ExportKind → Noted → Reader Noted
 kind_head_at kind s k = free_id_at (space_of s.names kind) k >>= λ i. Some (record s { names = with_item s.names kind i.0 }, i.1)
 

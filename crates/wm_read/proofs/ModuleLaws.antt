@@ -56,7 +56,7 @@ noted_is : (pr : Profile) (names : Names) (fs : List Field) (front rest : List T
     → names_at pr (front ++ close_paren ∷ rest) ≡ names_in (note_all nothing fs >>= λ t. Some (t, close_paren ∷ rest))
 noted_is pr names fs front rest of h = ap names_in (heads_are pr names nothing fs front (close_paren ∷ rest) of h refl)
 
--- fields whose names are found in a text that ends behind them
+-- The names are those of the fields, the fields keep the rules, and no token is left.
 record Found (names : Names) (fs : List Field) (rest : List Token) : Type 0 where
   same : names ≡ names_of fs
   keeps : Keeps fs
@@ -194,7 +194,7 @@ heads_are_read pr written fs front more of h order once distinct =
     noted_is pr written fs front more of h ∙ ap (λ (o : Option Noted). names_in (o >>= λ t. Some (t, close_paren ∷ more))) t.1
     ∙ ap (λ (z : Names). Some (z, close_paren ∷ more)) t.2
 
--- ---- behind a module
+-- ---- tokens after a module
 
 -- tokens that write a module, and one more
 pub followed : (p : Profile) (k : List Token) (m : Module) (t : Token) (more : List Token) → Writes p k m → IsFollowed p (k ++ t ∷ more)

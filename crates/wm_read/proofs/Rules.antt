@@ -139,7 +139,7 @@ names_found fs = names_joined nothing fs
 
 -- ---- identifiers
 
--- a field that may stand keeps identifiers distinct
+-- A field that the notes allow keeps identifiers distinct.
 keeps : (s : Noted) (f : Field) → allowed s f ≡ true → HasDistinct s.names → HasDistinct (after s f).names
 keeps s (type_field id f) h d = with_type_distinct s.names id f h d
 keeps s (import_field id i) h d = with_item_distinct s.names (kind_of i.desc) id (and_parts (not s.defined) (is_new (space_of s.names (kind_of i.desc)) id) h).1 d
@@ -326,7 +326,7 @@ started_once : (s : Noted) (fs : List Field) → AllAllowed s fs → starts s + 
 started_once s [] h = let l = one_at_most s.started in omega (arith, l)
 started_once s (f ∷ fs) h = let l = started_once (after s f) fs h.1 in let e = counted s f fs h.0 in omega (arith, l, e)
 
--- ---- fields that keep the rules may stand
+-- ---- fields that keep the rules are allowed
 
 is_not : (t : Bool) → (t ≡ true → ⊥) → not t ≡ true
 is_not true h = absurd (h refl)

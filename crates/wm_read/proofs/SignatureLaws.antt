@@ -24,7 +24,7 @@ Parts pr = Both (OfGroups pr (codes "param")) (OfResults pr)
 abbrev parts_at : (pr : Profile) → Reader (List Named × List ValType)
 parts_at pr = then_at (named_at pr (codes "param")) (results_at pr)
 
--- no group stands where a parenthesis closes
+-- A closing parenthesis begins no group.
 pub close_no_group : (word : List ℕ) (k : List Token) → BeginsClose k → begins_group word k ≡ false
 close_no_group word [] f = refl
 close_no_group word (open_paren ∷ k) f = absurd f

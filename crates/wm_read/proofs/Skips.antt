@@ -12,7 +12,7 @@ passes_skip n b r lt here = refl
 passes_skip n b s lt (over_blank {r = r} p e) = ap (skip n) (sym (ahead_skips r s e)) ∙ passes_skip n b r lt p
 passes_skip n b s lt (over_atom {r = r} {a = a} p e) = sym (skip_atom n a (lexed r) (lexed s) lt (ahead_takes r s (atom a) e)) ∙ passes_skip n b r lt p
 
--- behind a plain atom, and white space by itself behind that
+-- After a plain atom and white space.
 pub skip_plain : (n : ℕ) (a b r s : List ℕ) → 0 < n → first (atom a) r ≡ ahead b → s ≡ after_spaces r → skip n (lexed s) ≡ skip n (lexed b)
 skip_plain n a b r s lt e spaces =
     ap (λ (z : List ℕ). skip n (lexed z)) spaces ∙ ap (skip n) (spaces_lexed r) ∙ sym (skip_atom n a (lexed b) (lexed r) lt (ahead_takes b r (atom a) e))
@@ -24,7 +24,7 @@ plain_within a b r s e spaces =
     let same : length s ≡ length (after_spaces r) = ap length spaces in
     omega (arith, lt, le, same)
 
--- behind a string or another atom, and a stretch behind that
+-- After a string or another atom, and a run of white space and plain atoms.
 pub skip_string_on : (n : ℕ) (a : List ℕ) (j : List Token) (r s : List ℕ) → 0 < n → j ≡ string a ∷ lexed r → Passes r s → skip n (lexed s) ≡ skip n j
 skip_string_on n a j r s lt e p = passes_skip n r s lt p ∙ sym (skip_string n a j (lexed r) lt e)
 

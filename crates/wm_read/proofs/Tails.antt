@@ -37,7 +37,7 @@ use Rattle.wm_read.proofs.SignatureLaws.{OfSignature, signature_sound}
 abbrev Behind : List Token → List Token → Type 0
 Behind j k = (f : List Token) × (j ≡ f ++ k)
 
--- behind a closing parenthesis
+-- The tokens after a closing parenthesis.
 abbrev Past : List Token → List Token → Type 0
 Past j k = (f : List Token) × (j ≡ f ++ close_paren ∷ k)
 
@@ -81,7 +81,7 @@ skip_past (suc n) (close_paren ∷ j) k e = one_more close_paren j k (skip_past 
 skip_past n (atom a ∷ j) k e = one_more (atom a) j k (skip_past n j k e)
 skip_past n (string b ∷ j) k e = one_more (string b) j k (skip_past n j k e)
 
--- ---- the first reading goes past closing parentheses
+-- ---- the first pass consumes closing parentheses
 
 free_behind : (ids : Ids) (j : List Token) (x : Id × List Token) → free_id_at ids j ≡ Some x → Behind j x.1
 free_behind ids j x e =

@@ -66,7 +66,7 @@ end_told (c ∷ text) at v w some none e is = end_named w (subst (λ (z : TextWh
 
 pub ruleset text_laws = (given, refused, end_told)
 
--- as the code reads a text: itself, or its copy
+-- The code reads the text itself, or its copy.
 pub read_itself : (p : Profile) (text : List ℕ) → module_at p (lexed text) ≡ module_at p (map (replaced spelling.Standard) (lexed text))
 read_itself p text = ap (module_at p) (sym (standard_stays (lexed text)))
 
@@ -99,12 +99,12 @@ tells_none text k why at t r w n = (
   (λ p. absurd (not_of_readers w p.0 (subst IsOfReaders p.1 r))),
 )
 
--- ---- one more token behind a module
+-- ---- one more token after a module
 
 pub on_err : {X : Type 0} (r : Result X TextFault) (e : TextFault) (P : TextFault → Type 0) → r ≡ Err e → P e → IfErr r P
 on_err {X} r e P is h = subst (λ (z : Result X TextFault). IfErr z P) (sym is) h
 
--- as the code reads a text with no copy
+-- The code reads a text without a copy.
 pub followed_itself : {X : Type 0} (p : Profile) (s : Spellings) (text : List ℕ) (r : Result X TextFault) → s ≡ spelling.Standard → IfErr r (λ e. e.why ≢ why.Memory → IsFollowed p (lexed text) → e.why ≡ why.Expected)
     → IfErr r (λ e. e.why ≢ why.Memory → IsFollowed p (map (replaced s) (lexed text)) → e.why ≡ why.Expected)
 followed_itself p s text r is h =

@@ -114,7 +114,7 @@ memory_head = head_is 109 (codes "emory") refl refl refl
 global_head : IsHead (codes "global")
 global_head = head_is 103 (codes "lobal") refl refl refl
 
--- the identifier of an import, by how many of its kind stand before it
+-- The identifier of an import, from the number of earlier imports of its kind.
 abbrev pub import_id : List Import → ImportDesc → Id
 import_id before (Func x) = id_at (codes "$f") (places before).functions
 import_id before (Table x) = id_at (codes "$tab") (places before).tables

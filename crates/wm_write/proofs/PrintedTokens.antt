@@ -166,7 +166,7 @@ body_line_breaks = record {
   ascii = IsAscii-cons 10 (32 ∷ 32 ∷ 32 ∷ 32 ∷ []) (omega arith) (IsAscii-cons 32 (32 ∷ 32 ∷ 32 ∷ []) (omega arith) (IsAscii-cons 32 (32 ∷ 32 ∷ []) (omega arith) two));
 }
 
--- ---- a token behind such white space
+-- ---- a token after this white space
 
 behind : (before : List ℕ) (means : WordMeaning) → IsBreak before → TokenText (token_of means) (meaning_text means) → IsAscii (meaning_text means) → IsGood (word_at before means)
 behind before means b t a = record {
@@ -260,7 +260,7 @@ string_good bytes h = behind gap (string bytes) gap_breaks
 
 -- ---- ( head words )
 
--- a word of the grammar, which stands behind a parenthesis
+-- A keyword after an opening parenthesis.
 pub record IsHead (head : List ℕ) : Type 0 where
   pub first : ℕ
   pub rest : List ℕ

@@ -164,7 +164,7 @@ sent_by_then n count t s f c w e lt h =
     let same : n + (count - n) ≡ count = omega (arith, lt) in
     sent_same _ _ s (f, c, w) (ap (λ (j : ℕ). words_text (map type_word (replicate j t))) same) (sent_rest (count - n) n t s f c w e h)
 
--- the runs of locals so far, and one run more
+-- The runs of locals up to here, and one more run.
 pub sent_run : (runs : List (ℕ × ValType)) (i : ℕ) (r : ℕ × ValType) (s t u : State) → slice_get runs i ≡ Some r
     → Sent (words_text (map type_word (locals_of (take i runs)))) s t → Sent (words_text (map type_word (replicate r.0 r.1))) t u
     → Sent (words_text (map type_word (locals_of (take (i + 1) runs)))) s u

@@ -254,14 +254,14 @@ started (Some x) b (byte, back, is, p, (size, contents, e, h, k)) =
     let l = number x contents k in
     omega (arith, ap length is, length-append byte back, ap length p, ap length e, length-append size contents, l, number (length contents) size h, number_rises (length (u32_bytes x)) (length contents) l, length-append (u32_bytes (length (u32_bytes x))) (u32_bytes x))
 
--- behind custom sections
+-- A section after custom sections.
 after : (a : List ℕ) (P : Form ℕ) → NoLonger a P → NoLonger a (Customs ▸ P)
 after a P f b (front, back, is, p, q) = omega (arith, ap length is, length-append front back, f back q)
 
 both : (a c : List ℕ) (P Q : Form ℕ) → NoLonger a P → NoLonger c Q → NoLonger (a ++ c) (Customs ▸ P ▸ Q)
 both a c P Q f g = after (a ++ c) (P ▸ Q) (then a c P Q f g)
 
--- the last section has custom ones behind it
+-- Custom sections after the last section.
 last : (a : List ℕ) (P : Form ℕ) → NoLonger a P → NoLonger a (Customs ▸ P ▸ Customs)
 last a P f b (front, back, is, p, (one, other, e, q, r)) = omega (arith, ap length is, length-append front back, ap length e, length-append one other, f one q)
 

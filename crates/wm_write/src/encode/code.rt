@@ -17,7 +17,7 @@ use wm_syntax::modules::body::Body;
 use wm_syntax::modules::locals::Locals;
 use wm_syntax::numbers::lengths::number_len;
 
-// The length of the longest op, in bytes: an access with two numbers of five bytes.
+// The length of the longest ops in bytes, such as an access with two numbers of five bytes.
 const LONGEST_OP: usize = 11;
 
 /// The contents of a code entry after its size: the locals and the body.

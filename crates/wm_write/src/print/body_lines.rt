@@ -100,7 +100,7 @@ fn push_name(line: &mut Batch, op: &Op)
     }
 }
 
-// Appends the operands of an instruction. It is borrowed, since a copy would go through memory.
+// Appends the operands of an instruction, which is borrowed, since a copy would go through memory.
 #[inline(always)]
 fn push_immediates(line: &mut Batch, simple: &Simple)
     requires usual { IsTrue (is_simple_printable simple.now) }
