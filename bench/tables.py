@@ -12,7 +12,7 @@ import sys
 
 CRATES = pathlib.Path(__file__).resolve().parent.parent / "crates"
 NAMES = CRATES / "wm_syntax/src/instructions/op_names.rt"
-GUESSED = CRATES / "wm_bodies/src/op_words.rt"
+GUESSED = CRATES / "wm_bodies/src/op_keywords.rt"
 # of two names with one place this one is guessed
 PREFERRED = b"memory.size"
 

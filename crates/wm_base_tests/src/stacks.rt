@@ -4,8 +4,8 @@ use crate::scripts::{Scripted, number_of, play_each, shown, type_of, unknown, wo
 use std::alloc::Global;
 use std::process::Abort;
 use std::test::Fail;
-use wm_stacks::entries::{Entry, FrameKind};
 use wm_stacks::run_table::RunTable;
+use wm_stacks::stack_entries::{Entry, FrameKind};
 use wm_stacks::stacks::Stacks;
 use wm_syntax::types::ValType;
 use wm_syntax::why::Why;
@@ -96,19 +96,19 @@ fn moved(rt: &impl Abort, alloc: Global, stacks: &mut Stacks, call: &str) -> Str
     match word {
         "push" => shown(rt, alloc, stacks.push(entry_of(rt, with))),
         "take" => shown(rt, alloc, stacks.take(&types_of(rt, alloc, with))),
-        "push_float" => shown(rt, alloc, stacks.push_float_near(entry_of(rt, with))),
+        "push_float" => shown(rt, alloc, stacks.push_float_fast(entry_of(rt, with))),
         "take_float" => shown(
             rt,
             alloc,
-            stacks.replace_float_near(type_of(rt, with), None),
+            stacks.replace_float_fast(type_of(rt, with), None),
         ),
         "keep_float" => {
             let (ty, given) = (type_of(rt, with), Some(entry_of(rt, with)));
-            shown(rt, alloc, stacks.replace_float_near(ty, given))
+            shown(rt, alloc, stacks.replace_float_fast(ty, given))
         }
         "merge_floats" => {
             let (ty, given) = (type_of(rt, with), Some(entry_of(rt, with)));
-            shown(rt, alloc, stacks.replace_two_floats_near(ty, ty, given))
+            shown(rt, alloc, stacks.replace_two_floats_fast(ty, ty, given))
         }
         "take_any" => shown(rt, alloc, stacks.take_any()),
         "close" => shown(rt, alloc, stacks.close()),

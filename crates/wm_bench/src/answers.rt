@@ -13,7 +13,7 @@ use wm_syntax::io::Dest;
 use wm_syntax::io::output::Output;
 use wm_syntax::modules::Module;
 use wm_syntax::profile::Profile;
-use wm_write::check::{CheckFault, check, checked_bytes};
+use wm_write::check_module::{CheckFault, check, checked_bytes};
 use wm_write::encode::encode;
 use wm_write::print::print;
 

@@ -3,7 +3,7 @@ pub mod Ends
 pub mod Indices
 pub mod Floats
 pub mod Immediates
-pub mod OpWords
+pub mod OpKeywords
 pub mod PieceLaws
 pub mod BodyLaws
 pub mod BodyLoop

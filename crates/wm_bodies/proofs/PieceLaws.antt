@@ -28,8 +28,8 @@ use Rattle.wm_syntax.specs.OpClasses.{class_of, IsClassOfOp}
 use Rattle.wm_syntax.specs.Profiles.{HasBlockType, HasSimple, IsOpOf}
 use Rattle.wm_tokens.specs.Tokens.{Token, open_paren, close_paren, string, atom, is_lower}
 use Rattle.wm_tokens.proofs.Basics.{chosen, same_some}
-use Rattle.wm_bodies.specs.declared.blocks.Opening.{Opening}
-use Rattle.wm_bodies.specs.declared.blocks.Opening.TheVariants.{Block, Loop, If}
+use Rattle.wm_bodies.specs.declared.blocks.BlockKeyword.{BlockKeyword}
+use Rattle.wm_bodies.specs.declared.blocks.BlockKeyword.TheVariants.{Block, Loop, If}
 use Rattle.wm_tokens.specs.Identifiers.{Id, Ids, AreDistinct, WritesId, Resolves, ResolvesLabel}
 use Rattle.wm_syntax.specs.OpNames.{op_name}
 use Rattle.wm_syntax.specs.exact.NameTable.{class_named, immediates_name}
@@ -52,7 +52,7 @@ piece_word (opens o id t) = opening_word o
 piece_word middle = codes "else"
 piece_word closes = codes "end"
 
-abbrev pub opening_class : Opening → OpClass
+abbrev pub opening_class : BlockKeyword → OpClass
 opening_class Block = class.With k.Block
 opening_class Loop = class.With k.Loop
 opening_class If = class.With k.If
@@ -367,7 +367,7 @@ module _ (use_at : Reader ℕ) (sc : Scope) (use_sound : Sound use_at (UnnamedTy
       let u = same_some (plain i, k) (q, rest) is in
       ([], ap (λ (z : Piece × List Token). z.1) u, subst (λ (z : Piece × List Token). Headed w z.0 []) u (e, h, g))
 
-  opens_sound : (o : Opening) → Sound (opens_at p o) (Headed (opening_word o))
+  opens_sound : (o : BlockKeyword) → Sound (opens_at p o) (Headed (opening_word o))
   opens_sound o = made_sound (λ x. opens o x.0 x.1) (then_at id_at (block_type_at p)) (Both WritesId (OfBlockType p)) (Headed (opening_word o))
       (then_sound id_at (block_type_at p) WritesId (OfBlockType p) id_sound (block_type_sound p)) (λ x front h. (refl, (h.0, h.1, h.2, h.3, h.4.0), h.4.1))
 
@@ -479,7 +479,7 @@ module _ (use_at : Reader ℕ) (sc : Scope) (use_sound : Sound use_at (UnnamedTy
     type_not_id None front rest (e, of) f = subst (λ (z : List Token). NotId (z ++ rest)) (sym e) (follow_id rest f)
     type_not_id (Some t) front rest ((a, b, e, is, more), of) f = subst (λ (z : List Token). NotId (z ++ rest)) (sym (e ∙ ap (λ (z : List Token). z ++ b) is)) tt
 
-    opens_complete : (o : Opening) (id : Id) (t : Option ValType) (front rest : List Token) → (WritesId id ▸ WritesBlockType t) front → HasBlockType p t → Follow rest → opens_at p o (front ++ rest) ≡ Some (opens o id t, rest)
+    opens_complete : (o : BlockKeyword) (id : Id) (t : Option ValType) (front rest : List Token) → (WritesId id ▸ WritesBlockType t) front → HasBlockType p t → Follow rest → opens_at p o (front ++ rest) ≡ Some (opens o id t, rest)
     opens_complete o id t front rest (a, b, e, i, w) of f =
         made_is (λ x. opens o x.0 x.1) (then_at id_at (block_type_at p) (front ++ rest)) (id, t) rest
         (then_complete id_at (block_type_at p) WritesId (OfBlockType p) NotId Follow id_complete (λ u g r h f. block_type_complete p u g r h (follow_open r f)) type_not_id (id, t) front rest (a, b, e, i, (w, of)) f)

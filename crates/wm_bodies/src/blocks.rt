@@ -12,7 +12,7 @@ use std::marker::Model;
 
 /// The kind of a block.
 #[derive(Clone, Copy, PartialEq, Eq)]
-pub enum Opening {
+pub enum BlockKeyword {
     Block,
     Loop,
     If,

@@ -13,9 +13,9 @@ ghost use Rattle.wm_syntax.specs.inner.Building.{at, place_after};
 ghost use Rattle.wm_syntax.specs.Instructions.{Instructions};
 ghost use Rattle.wm_syntax.specs.declared.instructions.Op.TheVariants as Op;
 
-use crate::blocks::{OpenBlocks, Opening};
+use crate::blocks::{BlockKeyword, OpenBlocks};
 use crate::identifiers::Scope;
-use crate::operands::refuse;
+use crate::immediates::refuse;
 use crate::pieces::{Piece, read_piece};
 use std::alloc::Global;
 use wm_syntax::instructions::{Op, Simple};
@@ -56,7 +56,7 @@ fn push_simple(builder: &mut BodyBuilder, simple: Simple) -> Result<(), TextFaul
     ensures memory { IfErr result (λ e. e.why ≡ Memory) }
     ensures taken { OnOk result (place_after builder.old (Op.Simple simple ∷ []) ≡ Some builder.new) }
 {
-    if builder.push_near(&Op::Simple(simple)) {
+    if builder.push_fast(&Op::Simple(simple)) {
         Ok(())
     } else {
         push(builder, Op::Simple(simple))
@@ -91,21 +91,21 @@ fn push_table(builder: &mut BodyBuilder, labels: &[u32], default: u32) -> Result
 }
 
 /// Returns the op that opens a block with this result type.
-fn opening_op(opening: Opening, ty: Option<ValType>) -> Op
+fn opening_op(opening: BlockKeyword, ty: Option<ValType>) -> Op
     ensures { result ≡ flat.opening_op opening ty }
 {
     match opening {
-        Opening::Block => Op::Block(ty),
-        Opening::Loop => Op::Loop(ty),
-        Opening::If => Op::If(ty),
+        BlockKeyword::Block => Op::Block(ty),
+        BlockKeyword::Loop => Op::Loop(ty),
+        BlockKeyword::If => Op::If(ty),
     }
 }
 
 /// Whether the block is an `if`, so that an `else` may follow.
-fn is_if(opening: Opening) -> bool
+fn is_if(opening: BlockKeyword) -> bool
     ensures { result ≡ flat.is_if opening }
 {
-    matches!(opening, Opening::If)
+    matches!(opening, BlockKeyword::If)
 }
 
 /// Appends a piece that may come next. After an error the body is unspecified.

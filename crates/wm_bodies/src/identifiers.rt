@@ -163,7 +163,7 @@ pub struct Scope<'n, 'a> {
 }
 
 /// Whether an optional identifier is this one.
-pub fn is_same_id(id: Option<&[u8]>, name: &[u8]) -> bool
+pub(crate) fn is_same_id(id: Option<&[u8]>, name: &[u8]) -> bool
     ensures { result ≡ same_id (id_of id.entry) name.now }
 {
     match id {

@@ -127,7 +127,7 @@ fn plain(half: u64, whole: u128, atom: &[u8]) -> Option<i128>
 }
 
 /// Returns the constant of an `i32.const` as a signed number, written unsigned or signed. Core spec 6.3.1.
-pub fn constant32(atom: &[u8]) -> Option<i32>
+pub(crate) fn constant32(atom: &[u8]) -> Option<i32>
     ensures { result ≡ reading.integer_of 32 atom.now }
 {
     match short_decimal(atom) {
@@ -147,7 +147,7 @@ fn any_constant32(atom: &[u8]) -> Option<i32>
 
 /// Returns the constant of an `i64.const` as a signed number, written unsigned or signed. Core spec 6.3.1.
 #[tactic(auto, unfolding(crate::specs::exact::Reading::integer_of))]
-pub fn constant64(atom: &[u8]) -> Option<i64>
+pub(crate) fn constant64(atom: &[u8]) -> Option<i64>
     ensures { result ≡ reading.integer_of 64 atom.now }
 {
     let n = integer(0x8000_0000_0000_0000, 0x1_0000_0000_0000_0000, atom)?;
@@ -156,7 +156,7 @@ pub fn constant64(atom: &[u8]) -> Option<i64>
 
 /// Returns the bits of an f32. Core spec 6.3.2. `None` if the atom is no f32, or rounds to an infinity.
 #[tactic(auto, using(crate::proofs::Floats::word_laws))]
-pub fn float32(alloc: Global, atom: &[u8]) -> Result<Option<u32>, AllocError>
+pub(crate) fn float32(alloc: Global, atom: &[u8]) -> Result<Option<u32>, AllocError>
     ensures { IfOk result (λ o. o ≡ atoms.float_of float.F32 atom.now) }
 {
     match float_of(alloc, FloatType::F32, atom)? {
@@ -166,14 +166,14 @@ pub fn float32(alloc: Global, atom: &[u8]) -> Result<Option<u32>, AllocError>
 }
 
 /// Returns the bits of an f64. Core spec 6.3.2. `None` if the atom is no f64, or rounds to an infinity.
-pub fn float64(alloc: Global, atom: &[u8]) -> Result<Option<u64>, AllocError>
+pub(crate) fn float64(alloc: Global, atom: &[u8]) -> Result<Option<u64>, AllocError>
     ensures { IfOk result (λ o. o ≡ atoms.float_of float.F64 atom.now) }
 {
     float_of(alloc, FloatType::F64, atom)
 }
 
 /// Returns the rest of an atom after a key such as `offset=`. `None` if it does not begin with the key.
-pub fn after_key<'a>(key: &[u8], atom: &'a [u8]) -> Option<&'a [u8]>
+pub(crate) fn after_key<'a>(key: &[u8], atom: &'a [u8]) -> Option<&'a [u8]>
     ensures { MatchOption result (reading.after_key key.now atom.now ≡ None)
         (λ r. reading.after_key key.now atom.now ≡ Some r.now) }
 {

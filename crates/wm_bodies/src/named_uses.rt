@@ -128,7 +128,7 @@ pub fn named_use<'n, 'a>(
 /// Refines the refusal of a `call_indirect`'s type use, whose parameters may have no identifiers. The type use is read
 /// again with identifiers allowed. An error at or before `fault` replaces it; else `fault` is at an identifier, and
 /// becomes `TypeUse`. A refusal at the end of the text stays, and so does `Memory`.
-pub fn call_fault(
+pub(crate) fn call_fault(
     alloc: Global,
     profile: Profile,
     names: &Names,

@@ -13,14 +13,14 @@ ghost use Rattle.wm_syntax.specs.Opcodes as table;
 ghost use Rattle.wm_syntax.specs.declared.instructions.FloatType.TheVariants as float;
 ghost use Rattle.wm_syntax.specs.declared.instructions.Simple.TheVariants as Simple;
 
-use crate::blocks::{OpenBlocks, Opening};
+use crate::blocks::{BlockKeyword, OpenBlocks};
 use crate::identifiers::{Names, Scope};
-use crate::named_uses::call_fault;
-use crate::op_words::op_word;
-use crate::operands::{
+use crate::immediates::{
     access, again, begins_index, block_type, float_32, float_64, id, index, integer_32, integer_64,
     label, no_instruction, refuse, with,
 };
+use crate::named_uses::call_fault;
+use crate::op_keywords::op_keyword;
 use crate::type_uses::type_use;
 use std::alloc::Global;
 use wm_syntax::instructions::accesses::{loaded, stored};
@@ -35,12 +35,12 @@ use wm_tokens::faults::{TextFault, TextWhy};
 pub enum Piece<'a> {
     Plain(Simple),
     Table(Vec<u32>, u32),
-    Opens(Opening, Option<&'a [u8]>, Option<ValType>),
+    Opens(BlockKeyword, Option<&'a [u8]>, Option<ValType>),
     Middle,
     Closes,
 }
 
-fn opens(profile: Profile, opening: Opening, text: &[u8]) -> Result<(Piece, &[u8]), TextFault>
+fn opens(profile: Profile, opening: BlockKeyword, text: &[u8]) -> Result<(Piece, &[u8]), TextFault>
     ensures fits { IfOk result (λ x. FitsPiece (piece_of x.0)) }
     ensures read { Reads (λ x. (piece_of x.0, lexed x.1.now)) result
         (reading.opens_at profile opening (lexed text.now)) }
@@ -220,7 +220,7 @@ fn indirect<'a>(
 /// Fails with `Float` for a name of floats that the profile lacks. Fails with `UnknownWord` for another keyword that is
 /// no instruction of the profile, and for an `else` or `end` without its block. Another atom is `Expected`.
 #[tactic(auto, unfolding(crate::specs::exact::Reading::piece_at))]
-pub fn read_piece<'a>(
+pub(crate) fn read_piece<'a>(
     alloc: Global,
     profile: Profile,
     scope: &Scope,
@@ -235,14 +235,14 @@ pub fn read_piece<'a>(
         (reading.piece_at (call_use_at profile (names_of scope.now.names.now)) profile (scope_of scope.now)
         blocks.now word.now (lexed text.now)) }
 {
-    match op_word(profile, word) {
+    match op_keyword(profile, word) {
         OpClass::Plain(Op::Simple(simple)) => Ok((Piece::Plain(simple), text)),
         OpClass::Plain(Op::Else) => middle(blocks, here, text),
         OpClass::Plain(Op::End) => closes(blocks, here, text),
         OpClass::Plain(_) => Err(refuse(TextWhy::UnknownWord, here)),
-        OpClass::With(Immediates::Block) => opens(profile, Opening::Block, text),
-        OpClass::With(Immediates::Loop) => opens(profile, Opening::Loop, text),
-        OpClass::With(Immediates::If) => opens(profile, Opening::If, text),
+        OpClass::With(Immediates::Block) => opens(profile, BlockKeyword::Block, text),
+        OpClass::With(Immediates::Loop) => opens(profile, BlockKeyword::Loop, text),
+        OpClass::With(Immediates::If) => opens(profile, BlockKeyword::If, text),
         OpClass::With(Immediates::BrTable) => table(alloc, blocks, text),
         OpClass::With(Immediates::CallIndirect) => indirect(alloc, profile, scope.names, text),
         OpClass::With(Immediates::F32Const) => constant_f32(alloc, text),

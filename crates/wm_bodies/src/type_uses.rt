@@ -11,8 +11,8 @@ ghost use Rattle.wm_bodies.specs.inner.Blocks.{names_of};
 ghost use Rattle.wm_bodies.specs.inner.Views.{IsRefusal, Reads};
 
 use crate::identifiers::Names;
+use crate::immediates::{close, index, no_type, open, refuse, type_of, word};
 use crate::literals::is;
-use crate::operands::{close, index, no_type, open, refuse, type_of, word};
 use std::alloc::Global;
 use wm_syntax::modules::equality::same_list;
 use wm_syntax::profile::Profile;
@@ -46,7 +46,7 @@ fn value_types<'a>(
 }
 
 /// Whether the first two tokens are `( name`.
-pub fn begins_group(name: &[u8], text: &[u8]) -> bool
+pub(crate) fn begins_group(name: &[u8], text: &[u8]) -> bool
     ensures { result ≡ uses.begins_group name.now (lexed text.now) }
 {
     match next_token(text) {
@@ -197,7 +197,7 @@ pub fn type_use<'a>(
 }
 
 /// Returns a refusal at the index of a type use, which is the third token of `text`.
-pub fn refuse_index(why: TextWhy, text: &[u8]) -> TextFault
+pub(crate) fn refuse_index(why: TextWhy, text: &[u8]) -> TextFault
     requires { 3 ≤ length (lexed text.now) }
     ensures { result.why ≡ why }
 {

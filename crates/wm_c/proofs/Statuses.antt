@@ -10,7 +10,7 @@ use Rattle.wm_rules.specs.declared.policy.Policy.{Policy}
 use Rattle.wm_rules.specs.Validation.{Accepted}
 use Rattle.wm_c.specs.declared.answer.Answer.{Answer}
 use Rattle.wm_c.specs.Answers.{IsRight, in_numbers}
-use Rattle.wm_write.specs.declared.check.CheckFault.TheVariants as check
+use Rattle.wm_write.specs.declared.check_module.CheckFault.TheVariants as check
 use Rattle.wm_tokens.specs.declared.faults.TextWhy.{TextWhy}
 use Rattle.wm_tokens.specs.declared.faults.TextWhy.TheVariants as text
 use Rattle.wm_c.specs.declared.output.Unbuilt.{Unbuilt}

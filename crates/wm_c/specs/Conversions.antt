@@ -11,8 +11,8 @@ use Rattle.wm_rules.specs.Meanings.{Meaning}
 use Rattle.wm_rules.specs.Policies.{Within}
 use Rattle.wm_rules.specs.Validation.{Valid}
 use Rattle.wm_write.specs.Canon.{Fits, canon}
-use Rattle.wm_write.specs.declared.check.CheckFault.{CheckFault}
-use Rattle.wm_write.specs.declared.check.CheckFault.TheVariants as check
+use Rattle.wm_write.specs.declared.check_module.CheckFault.{CheckFault}
+use Rattle.wm_write.specs.declared.check_module.CheckFault.TheVariants as check
 use Rattle.wm_tokens.specs.declared.faults.TextWhy.TheVariants as text
 use Rattle.wm_read.specs.declared.spellings.Spellings.{Spellings}
 use Rattle.wm_read.specs.Spellings.{IsTextOf}

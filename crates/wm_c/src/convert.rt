@@ -23,7 +23,7 @@ use wm_rules::{Checked, Loader, Policy};
 use wm_syntax::modules::Module;
 use wm_syntax::profile::Profile;
 use wm_syntax::why::Why;
-use wm_write::check::{CheckFault, checked_bytes};
+use wm_write::check_module::{CheckFault, checked_bytes};
 use wm_write::in_memory::{MakeFault, encoded, printed};
 
 /// Writes the canonical binary of a valid module. The result is the output's status.

@@ -7,7 +7,7 @@ use crate::codes::{refused_status, text_number, text_status, why_number};
 use wm_decode::Refusal;
 use wm_read::faults::TextRefusal;
 use wm_syntax::why::Why;
-use wm_write::check::CheckFault;
+use wm_write::check_module::CheckFault;
 
 /// How a conversion ended: `wmod_output` of the header, which says what each field means.
 #[repr(C)]

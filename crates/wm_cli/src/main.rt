@@ -4,12 +4,12 @@
 use std::process::ExitCode;
 use std::rt::{Env, Files};
 use std::{env, io};
+use wm_command::arguments::LineFault;
 use wm_command::complaint::{complain, complain_of, explain_fault};
 use wm_command::execute::{System, execute};
 use wm_command::explain::{explain, is_asked};
 use wm_command::line::line;
 use wm_command::status::{Status, exit_code};
-use wm_command::words::LineFault;
 
 /// The words that the program was started with.
 fn read_words<R: Env + Eprint + AllocGlobal>(rt: &R) -> Result<Vec<String>, LineFault> {

@@ -11,8 +11,8 @@ use Rattle.clap.proofs.OnLiterals.{clap_on_literals}
 use Rattle.clap.proofs.WalkLemmas.{first_value-rows}
 use Rattle.wm_command.specs.declared.line.WrongWord.{WrongWord}
 use Rattle.wm_command.specs.declared.line.WrongWord.TheVariants as wrong
-use Rattle.wm_command.specs.declared.words.Action.{Action}
-use Rattle.wm_command.specs.declared.words.Action.TheVariants.{Build}
+use Rattle.wm_command.specs.declared.arguments.Action.{Action}
+use Rattle.wm_command.specs.declared.arguments.Action.TheVariants.{Build}
 use Rattle.wm_command.specs.Lines.{IsLimit, IsMost, IsPolicy, IsProfile, IsWrong, NoneIsWrong, Stands, action_name, wmod, word_of}
 use Rattle.wm_rules.specs.declared.policy.Policy.{Policy}
 use Rattle.wm_syntax.specs.declared.profile.Profile.{Profile}

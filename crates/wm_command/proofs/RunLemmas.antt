@@ -10,7 +10,7 @@ use Rattle.wm_syntax.specs.declared.why.Why.TheVariants.{Memory, TooLong}
 use Rattle.wm_machine.specs.declared.refusal.Refusal.{Refusal}
 use Rattle.wm_command.specs.declared.status.Status.{Status}
 use Rattle.wm_command.specs.declared.status.Status.TheVariants as status
-use Rattle.wm_command.specs.declared.words.Action.TheVariants.{Check, Stats, Canon, Show, Build}
+use Rattle.wm_command.specs.declared.arguments.Action.TheVariants.{Check, Stats, Canon, Show, Build}
 use Rattle.wm_command.specs.Answers.{IsAnswered}
 use Rattle.wm_syntax.specs.Modules.{Module}
 use Rattle.wm_syntax.specs.Values.{value_of}
@@ -20,7 +20,7 @@ use Rattle.wm_rules.specs.inner.Loaders.{module_in}
 use Rattle.wm_write.specs.Canon.{Fits, canon}
 use Rattle.wm_write.specs.Layout.{layout}
 use Rattle.wm_write.proofs.Shortest.{spelled_fits}
-use Rattle.wm_command.specs.declared.words.Action.{Action}
+use Rattle.wm_command.specs.declared.arguments.Action.{Action}
 use Rattle.wm_rules.specs.declared.policy.Policy.{Policy}
 use Rattle.wm_read.specs.declared.spellings.Spellings.{Spellings}
 use Rattle.wm_rules.specs.Reading.{AnswersSource, LoadedInput, RefusedInput}

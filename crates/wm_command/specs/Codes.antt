@@ -5,8 +5,8 @@ use Rattle.clap.specs.declared.error.kind.ErrorKind.{ErrorKind}
 use Rattle.clap.specs.declared.error.kind.ErrorKind.TheVariants.{DisplayHelp, DisplayVersion, OutOfMemory}
 use Rattle.wm_command.specs.declared.status.Status.{Status}
 use Rattle.wm_command.specs.declared.status.Status.TheVariants.{Done, Refused, Io, Memory}
-use Rattle.wm_command.specs.declared.words.LineFault.{LineFault}
-use Rattle.wm_command.specs.declared.words.LineFault.TheVariants as fault
+use Rattle.wm_command.specs.declared.arguments.LineFault.{LineFault}
+use Rattle.wm_command.specs.declared.arguments.LineFault.TheVariants as fault
 
 abbrev pub exit_status : Status → ℕ
 exit_status Done = 0

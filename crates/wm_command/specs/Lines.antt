@@ -14,13 +14,13 @@ use Rattle.wm_syntax.specs.declared.profile.Profile.TheVariants.{One, Two, Three
 use Rattle.wm_rules.specs.declared.policy.Policy.{Policy}
 use Rattle.wm_read.specs.declared.spellings.Spellings.{Spellings}
 use Rattle.wm_read.specs.declared.spellings.Spellings.TheVariants.{Standard, Older}
-use Rattle.wm_command.specs.declared.words.Action.{Action}
-use Rattle.wm_command.specs.declared.words.Action.TheVariants.{Check, Stats, Canon, Show, Build}
-use Rattle.wm_command.specs.declared.words.Line.{Line}
+use Rattle.wm_command.specs.declared.arguments.Action.{Action}
+use Rattle.wm_command.specs.declared.arguments.Action.TheVariants.{Check, Stats, Canon, Show, Build}
+use Rattle.wm_command.specs.declared.arguments.Line.{Line}
 use Rattle.wm_command.specs.declared.line.WrongWord.{WrongWord}
 use Rattle.wm_command.specs.declared.line.WrongWord.TheVariants as wrong
-use Rattle.wm_command.specs.declared.words.LineFault.{LineFault}
-use Rattle.wm_command.specs.declared.words.LineFault.TheVariants as fault
+use Rattle.wm_command.specs.declared.arguments.LineFault.{LineFault}
+use Rattle.wm_command.specs.declared.arguments.LineFault.TheVariants as fault
 
 -- ACTION: a word that must be there
 abbrev pub action_rule : Rule

@@ -6,8 +6,8 @@ use Rattle.wm_syntax.specs.declared.why.Why.{Why}
 use Rattle.wm_syntax.specs.declared.why.Why.TheVariants.{Memory}
 use Rattle.wm_command.specs.declared.status.Status.{Status}
 use Rattle.wm_command.specs.declared.status.Status.TheVariants.{Done, Refused}
-use Rattle.wm_command.specs.declared.words.Action.{Action}
-use Rattle.wm_command.specs.declared.words.Action.TheVariants.{Check, Stats, Canon, Show, Build}
+use Rattle.wm_command.specs.declared.arguments.Action.{Action}
+use Rattle.wm_command.specs.declared.arguments.Action.TheVariants.{Check, Stats, Canon, Show, Build}
 use Rattle.std.specs.Io.KnownBytes.{IsAtEnd}
 use Rattle.wm_rules.specs.declared.checker.Summary.{Summary}
 use Rattle.wm_rules.specs.declared.policy.Policy.{Policy}

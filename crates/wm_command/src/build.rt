@@ -7,10 +7,10 @@ ghost use Rattle.wm_command.specs.Answers.{IsAnswered};
 ghost use Rattle.wm_command.specs.Building.{ModuleOut, TextOut};
 ghost use Rattle.wm_command.specs.declared.build.InputFault.TheVariants as fault;
 ghost use Rattle.wm_command.specs.declared.status.Status.{Status};
-ghost use Rattle.wm_command.specs.declared.words.Action.TheVariants as action;
+ghost use Rattle.wm_command.specs.declared.arguments.Action.TheVariants as action;
 ghost use Rattle.wm_command.specs.Outcome.{IsOutput, IsRightFor};
 ghost use Rattle.wm_command.specs.Refused.{module_line, text_line, too_large_line};
-ghost use Rattle.wm_write.specs.declared.check.CheckFault.TheVariants as check;
+ghost use Rattle.wm_write.specs.declared.check_module.CheckFault.TheVariants as check;
 ghost use Rattle.wm_tokens.specs.declared.faults.TextWhy.TheVariants as text;
 ghost use Rattle.wm_syntax.specs.Profiles.{IsOf};
 ghost use Rattle.wm_syntax.specs.Values.{value_of};
@@ -28,7 +28,7 @@ use wm_syntax::io::{Dest, Source};
 use wm_syntax::modules::Module;
 use wm_syntax::profile::Profile;
 use wm_syntax::why::Why;
-use wm_write::check::{CheckFault, checked_bytes};
+use wm_write::check_module::{CheckFault, checked_bytes};
 
 const PIECE: usize = 4096;
 

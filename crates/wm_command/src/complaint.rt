@@ -4,9 +4,9 @@ ghost use Rattle.std.specs.Prelude.{◌≡◌, IfOk, IfErr};
 ghost use Rattle.wm_command.specs.Codes.{fault_code};
 ghost use Rattle.wm_command.specs.declared.status.Status.{Status};
 
+use crate::arguments::LineFault;
 use crate::line::wrong_word;
 use crate::status::Status;
-use crate::words::LineFault;
 use clap::error::ErrorKind;
 use std::fmt::Display;
 use std::io;

@@ -6,11 +6,11 @@ ghost use Rattle.wm_command.specs.Lines.{path_of};
 ghost use Rattle.wm_command.specs.declared.status.Status.{Status};
 ghost use Rattle.wm_command.specs.Outcome.{IsRightFor};
 
+use crate::arguments::Line;
 use crate::complaint::{complain, complain_of};
 use crate::run::run_line;
 use crate::status::Status;
 use crate::witness::Witness;
-use crate::words::Line;
 use std::io::{BufWriter, Read};
 use std::rt::Files;
 use std::{fs, io};

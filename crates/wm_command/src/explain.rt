@@ -5,14 +5,14 @@ ghost use Rattle.std.specs.String.{string_bytes};
 ghost use Rattle.wm_command.specs.Answers.{IsAnswered};
 ghost use Rattle.wm_command.specs.Lines.{asks_to_explain};
 ghost use Rattle.wm_command.specs.declared.status.Status.{Status};
-ghost use Rattle.wm_command.specs.declared.words.LineFault.TheVariants.{Memory, Words};
+ghost use Rattle.wm_command.specs.declared.arguments.LineFault.TheVariants.{Memory, Words};
 
 use crate::answer::answer;
+use crate::arguments::LineFault;
 use crate::complaint::{complain, complain_of};
 use crate::refusals::{OF_MODULES, OF_TEXTS};
 use crate::status::Status;
 use crate::witness::Witness;
-use crate::words::LineFault;
 use std::alloc::{AllocError, Global};
 use std::{fmt, io};
 use wm_syntax::io::Dest;

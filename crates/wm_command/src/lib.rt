@@ -3,6 +3,7 @@
 #![tactic(auto)]
 
 mod answer;
+pub mod arguments;
 mod build;
 pub mod complaint;
 pub mod execute;
@@ -13,4 +14,3 @@ mod refusals;
 pub mod run;
 pub mod status;
 pub mod witness;
-pub mod words;

@@ -4,8 +4,8 @@ ghost use Rattle.std.specs.Prelude.{ℕ, ◌≡◌, ◌≢◌, ◌<◌, ◌≤�
 ghost use Rattle.std.specs.Prelude.{option_map, IfOk, IfErr, IfSome, SomeIff, MatchOption};
 ghost use Rattle.std.specs.Str.Parse.{IsNumeral, digits_value};
 ghost use Rattle.clap.specs.Words.{app_of, fault_of, first_value, found_of, rule_of};
-ghost use Rattle.wm_command.specs.declared.words.Action.TheVariants.{Build};
-ghost use Rattle.wm_command.specs.declared.words.LineFault.TheVariants.{Memory, Words};
+ghost use Rattle.wm_command.specs.declared.arguments.Action.TheVariants.{Build};
+ghost use Rattle.wm_command.specs.declared.arguments.LineFault.TheVariants.{Memory, Words};
 ghost use Rattle.wm_command.specs.Lines.{IsFaultOf, IsLimit, IsMost, IsPolicy, IsProfile, IsSpellings, IsWrong};
 ghost use Rattle.wm_command.specs.Lines.{NoneIsWrong, Says, SaysNone, Stands, action_name, action_rule, file_rule, flag_rule};
 ghost use Rattle.wm_command.specs.Lines.{option_rule, profile_name, versioned, wmod, word_of};
@@ -13,7 +13,7 @@ ghost use Rattle.wm_read.specs.declared.spellings.Spellings.{Spellings};
 ghost use Rattle.wm_rules.specs.declared.policy.Policy.{Policy};
 ghost use Rattle.wm_syntax.specs.declared.profile.Profile.{Profile};
 
-use crate::words::{Action, Line, LineFault};
+use crate::arguments::{Action, Line, LineFault};
 use clap::error::ErrorKind;
 use clap::{Arg, ArgAction, ArgMatches, Command};
 use std::alloc::{AllocError, Global};

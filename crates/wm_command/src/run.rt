@@ -11,9 +11,9 @@ ghost use Rattle.wm_command.specs.Outcome.{IsRightFor, IsOutput, stats_text};
 ghost use Rattle.wm_command.specs.Refused.{refusal_line};
 
 use crate::answer::answer;
+use crate::arguments::{Action, Line};
 use crate::build::build;
 use crate::status::Status;
-use crate::words::{Action, Line};
 use std::alloc::Global;
 use wm_decode::Refusal;
 use wm_read::spellings::Spellings;

@@ -1,6 +1,6 @@
 //! How a run ends.
 
-use crate::words::LineFault;
+use crate::arguments::LineFault;
 use std::fmt;
 
 /// How a run ended.

@@ -25,7 +25,7 @@ use Rattle.wm_syntax.specs.declared.why.Why.{Why}
 use Rattle.wm_syntax.specs.declared.why.Why.TheVariants as why
 use Rattle.wm_machine.specs.declared.step.reading.Reading.{Reading}
 use Rattle.wm_machine.specs.declared.step.reading.Reading.TheVariants.{More, Done, Bad}
-use Rattle.wm_machine.specs.declared.step.ops.Opening.{Opening}
+use Rattle.wm_machine.specs.declared.step.ops.BlockOp.{BlockOp}
 use Rattle.wm_machine.specs.declared.step.ops.InOp.{InOp}
 use Rattle.wm_machine.specs.declared.step.ops.InOp.TheVariants as in_op
 use Rattle.wm_machine.specs.declared.step.values.InLimits.{InLimits}
@@ -216,7 +216,7 @@ first_law (With kind) = new_more num_op (immediates kind) (immediates_new kind)
 first_law Float = (tt, λ e. cc)
 first_law NoClass = (tt, λ e. cc)
 
-block_law : (p : Profile) (i : Opening) (c : ℕ) → OpNew (block_step p i c)
+block_law : (p : Profile) (i : BlockOp) (c : ℕ) → OpNew (block_step p i c)
 block_law p i c = cond_both (nat_eq c 0x40) _ _ OpNew (λ _. new_done num_op _) (λ _. type_law num_op p c (λ t. Done (block_op i (Some t))) (λ t. new_done num_op _))
 
 float_32_law : (left low c : ℕ) → OpNew (float_32_step left low c)

@@ -27,7 +27,7 @@ use Rattle.wm_machine.specs.declared.step.reading.Reading.{Reading}
 use Rattle.wm_machine.specs.declared.step.reading.Reading.TheVariants.{Bad, Done, More}
 use Rattle.wm_machine.specs.declared.step.ops.InOp.{InOp}
 use Rattle.wm_machine.specs.declared.step.ops.InOp.TheVariants as place
-use Rattle.wm_machine.specs.declared.step.ops.Opening.{Opening}
+use Rattle.wm_machine.specs.declared.step.ops.BlockOp.{BlockOp}
 use Rattle.wm_machine.specs.declared.step.expressions.InExpression.{InExpression}
 use Rattle.wm_machine.specs.declared.step.expressions.InExpression.TheVariants as expression
 use Rattle.wm_machine.specs.declared.step.values.InGlobalType.{InGlobalType}
@@ -132,7 +132,7 @@ module _ (p q : Profile) (more : Extends q p) where
     unfolding class_under
     first_apart = row_apart (slice_get classes c)
 
-    block_apart : (o : Opening) → Apart Bad (block_step p o c) (block_step q o c)
+    block_apart : (o : BlockOp) → Apart Bad (block_step p o c) (block_step q o c)
     block_apart o = by (nat_eq c 0x40)
       where
         by : (b : Bool) → Apart {A = Reading InOp Op} Bad (cond b (Done (block_op o Nothing)) (read_type (value_type_of p c) (λ t. Done (block_op o (Some t))))) (cond b (Done (block_op o Nothing)) (read_type (value_type_of q c) (λ t. Done (block_op o (Some t)))))

@@ -47,7 +47,7 @@ pub mod OneFront
 pub mod InExpression
 pub mod NameBytes
 pub mod SpelledBytes
-pub mod Stretches
+pub mod ByteRuns
 pub mod FramedBytes
 pub mod ItemFronts
 pub mod MustStand

@@ -16,7 +16,7 @@ use Rattle.wm_syntax.specs.declared.modules.ImportDesc.{ImportDesc}
 use Rattle.wm_syntax.specs.declared.modules.ImportDesc.TheVariants as desc
 use Rattle.wm_syntax.specs.declared.modules.ExportKind.{ExportKind}
 use Rattle.wm_syntax.specs.declared.modules.ExportKind.TheVariants as kind
-use Rattle.wm_machine.specs.declared.step.ops.Opening.{Opening}
+use Rattle.wm_machine.specs.declared.step.ops.BlockOp.{BlockOp}
 use Rattle.wm_machine.specs.declared.step.ops.InOp.{InOp}
 use Rattle.wm_machine.specs.declared.step.ops.InOp.TheVariants as at
 use Rattle.wm_machine.specs.declared.step.expressions.InExpression.TheVariants as expression
@@ -150,7 +150,7 @@ module _ (p : Profile) where
   pub op_begins : ValuesBegin (spelled p an_instruction) (op_rest p at.First)
   op_begins = whole (spelled p an_instruction) (op_rest p at.First) (λ b w. (w.0, (named w.0 w.1 w.2, w.3, w.4))) (λ o b h. let f = has_first o h.0 in (o, f.0, f.1, h.1, h.2))
 
-  pub block_begins : (i : Opening) → ValuesBegin (spelled p a_block_type) (op_rest p (at.BlockType i))
+  pub block_begins : (i : BlockOp) → ValuesBegin (spelled p a_block_type) (op_rest p (at.BlockType i))
   block_begins i = whole (spelled p a_block_type) (op_rest p (at.BlockType i)) (λ b w. (block_op i w.0, (w.0, refl, w.1))) (λ o b h. (h.0, h.2))
 
   pub closed_begins : (o : Op) → ValuesBegin (spelled p a_zero) (Closed o)

@@ -34,8 +34,8 @@ use Rattle.wm_syntax.proofs.OpTable.{has_class}
 use Rattle.wm_syntax.proofs.FirstBytes.{found_under, begins_under}
 use Rattle.wm_machine.specs.declared.step.reading.Reading.{Reading}
 use Rattle.wm_machine.specs.declared.step.reading.Reading.TheVariants.{More, Done, Bad}
-use Rattle.wm_machine.specs.declared.step.ops.Opening.{Opening}
-use Rattle.wm_machine.specs.declared.step.ops.Opening.TheVariants as opening
+use Rattle.wm_machine.specs.declared.step.ops.BlockOp.{BlockOp}
+use Rattle.wm_machine.specs.declared.step.ops.BlockOp.TheVariants as opening
 use Rattle.wm_machine.specs.declared.step.ops.Indexed.{Indexed}
 use Rattle.wm_machine.specs.declared.step.ops.Indexed.TheVariants as indexed
 use Rattle.wm_machine.specs.declared.step.ops.Sizing.{Sizing}
@@ -156,7 +156,7 @@ module _ (p : Profile) where
   block_spelled : (t : Option ValType) (c : ℕ) (b : List ℕ) → SpellsBlockType t (c ∷ b) → (c ≡ block_byte t) × (b ≡ [])
   block_spelled t c b h = (head_same c (block_byte t) b [] h, tail_same c (block_byte t) b [] h)
 
-  module _ (i : Opening) (c : ℕ) (o : Op) (b : List ℕ) where
+  module _ (i : BlockOp) (c : ℕ) (o : Op) (b : List ℕ) where
     abbrev Blocks : Reading InOp Op → Type 0
     Blocks a = Makes (block_op i) (Those (HasBlockType p) SpellsBlockType) o (c ∷ b) ↔ Goes (op_rest p) a o b
 
@@ -357,7 +357,7 @@ module _ (p : Profile) where
   op_reader = record { law = λ r c byte o b. op_law r c byte o b; some = rest_some }
 
   -- what comes of an op past its first byte has immediates
-  block_has : (i : Opening) (t : Option ValType) → HasImmediates (block_op i t)
+  block_has : (i : BlockOp) (t : Option ValType) → HasImmediates (block_op i t)
   block_has opening.Block t = (k.Block, refl)
   block_has opening.Loop t = (k.Loop, refl)
   block_has opening.If t = (k.If, refl)

@@ -23,7 +23,7 @@ use Rattle.wm_syntax.proofs.Room.{room_more}
 use Rattle.wm_syntax.proofs.FirstBytes.{float_under}
 use Rattle.wm_machine.specs.declared.step.reading.Reading.{Reading}
 use Rattle.wm_machine.specs.declared.step.reading.Reading.TheVariants.{More, Done, Bad}
-use Rattle.wm_machine.specs.declared.step.ops.Opening.{Opening}
+use Rattle.wm_machine.specs.declared.step.ops.BlockOp.{BlockOp}
 use Rattle.wm_machine.specs.declared.step.ops.InOp.{InOp}
 use Rattle.wm_machine.specs.declared.step.ops.InOp.TheVariants as at
 use Rattle.wm_machine.specs.exact.OpSteps.{block_op, index_op, call_op, memory_op, const_32_op, const_64_op, float_32_op, float_64_op, pushed_32, pushed_64, on_answer, immediates, first_step, block_step, closing_step, op_push}
@@ -111,7 +111,7 @@ type_fine : (q : Result ValType Why) (f : ValType → Reading InOp Op) → ((t :
 type_fine (Ok t) f h = h t
 type_fine (Err w) f h = tt
 
-block_fine : (p : Profile) (i : Opening) (c : ℕ) → FineOp (block_step p i c)
+block_fine : (p : Profile) (i : BlockOp) (c : ℕ) → FineOp (block_step p i c)
 block_fine p i c = cond_both (nat_eq c 0x40) _ _ (λ (a : Reading InOp Op). FineOp a) (λ _. tt) (λ _. type_fine (value_type_of p c) (λ t. Done (block_op i (Some t))) (λ t. tt))
 
 closing_fine : (o : Op) (c : ℕ) → FineOp (closing_step o c)
@@ -207,11 +207,11 @@ module _ (name : Why) (Fault : ℕ → Type 0) (other : (w : Why) → IsOther w 
       (λ _. cond_both (nat_eq c 0x7D) _ _ P (λ a. under_faults p F32 c (inl (eqb-true c 0x7D a)))
       (λ _. cond_both (nat_eq c 0x7C) _ _ P (λ a. under_faults p F64 c (inr (inl (eqb-true c 0x7C a)))) (λ _ e. absurd (other why.BadByte tt (same_err why.BadByte name e))))))
 
-  read_faults : (c : ℕ) (i : Opening) (q : Result ValType Why) → (q ≡ Err name → Fault c) → Faults c (read_type q (λ t. Done (block_op i (Some t))))
+  read_faults : (c : ℕ) (i : BlockOp) (q : Result ValType Why) → (q ≡ Err name → Fault c) → Faults c (read_type q (λ t. Done (block_op i (Some t))))
   read_faults c i (Ok t) h = done_faults c (block_op i (Some t))
   read_faults c i (Err w) h = λ e. h (ap Err (same_bad w name e))
 
-  block_faults : (p : Profile) (i : Opening) (c : ℕ) → Faults c (block_step p i c)
+  block_faults : (p : Profile) (i : BlockOp) (c : ℕ) → Faults c (block_step p i c)
   block_faults p i c = cond_both (nat_eq c 0x40) _ _ (λ (a : Reading InOp Op). Faults c a) (λ _. done_faults c (block_op i Nothing)) (λ _. read_faults c i (value_type_of p c) (type_faults p c))
 
   closing_faults : (o : Op) (c : ℕ) → Faults c (closing_step o c)

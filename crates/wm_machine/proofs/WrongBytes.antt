@@ -26,7 +26,7 @@ use Rattle.wm_syntax.proofs.OpTable.{float_not_none}
 use Rattle.wm_syntax.proofs.FirstBytes.{float_under}
 use Rattle.wm_machine.specs.declared.step.reading.Reading.{Reading}
 use Rattle.wm_machine.specs.declared.step.reading.Reading.TheVariants.{More, Done, Bad}
-use Rattle.wm_machine.specs.declared.step.ops.Opening.{Opening}
+use Rattle.wm_machine.specs.declared.step.ops.BlockOp.{BlockOp}
 use Rattle.wm_machine.specs.declared.step.ops.InOp.{InOp}
 use Rattle.wm_machine.specs.declared.step.ops.InOp.TheVariants as at
 use Rattle.wm_machine.specs.declared.step.values.InLimits.{InLimits}
@@ -136,7 +136,7 @@ module _ (F : Wanted → Type 0) (c : ℕ) (w : Why) where
   pub type_says : (p : Profile) → F a_value_type → value_type_of p c ≡ Err w → Says F c w
   type_says p f = named_says p a_value_type f (λ i. i) (λ n. n)
 
-  block_says : (p : Profile) → F a_block_type → (i : Opening) → block_step p i c ≡ Bad w → Says F c w
+  block_says : (p : Profile) → F a_block_type → (i : BlockOp) → block_step p i c ≡ Bad w → Says F c w
   block_says p f i =
       cond_both (nat_eq c 0x40) _ _ (λ (q : Reading InOp Op). q ≡ Bad w → Says F c w) (λ _ e. absurd (cc))
       (λ _ e. named_says p a_block_type f (λ i. i) (λ n. n) (type_bad (value_type_of p c) (λ t. Done (block_op i (Some t))) w (λ t i. cc) e))

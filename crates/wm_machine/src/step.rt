@@ -14,7 +14,7 @@ use wm_syntax::numbers::{Num32, Step};
 use wm_syntax::profile::Profile;
 use wm_syntax::why::Why;
 
-pub mod entries;
+pub mod code_entries;
 pub mod expressions;
 pub mod members;
 pub mod ops;

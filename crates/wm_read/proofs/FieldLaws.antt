@@ -13,8 +13,8 @@ use Rattle.wm_tokens.specs.Tokens.{Token, open_paren, close_paren, string, atom}
 use Rattle.wm_tokens.specs.Identifiers.{WritesId, Resolves}
 use Rattle.wm_tokens.specs.Written.{Names, Paren}
 use Rattle.wm_tokens.specs.Fields.{Field, type_field, import_field, function_field, table_field, memory_field, global_field, export_field, start_field, element_field, segment_field, HasDistinct, WritesExport, WritesField, WritesLimits, WritesName, WritesStrings, WritesTableType, module_of}
-use Rattle.wm_read.specs.declared.fields.words.FieldKind.{FieldKind}
-use Rattle.wm_read.specs.declared.fields.words.FieldKind.TheVariants as kind
+use Rattle.wm_read.specs.declared.fields.keywords.FieldKind.{FieldKind}
+use Rattle.wm_read.specs.declared.fields.keywords.FieldKind.TheVariants as kind
 use Rattle.wm_bodies.specs.exact.Reading.{atom_at, id_at, index_of, labels_at, then_at}
 use Rattle.wm_bodies.specs.exact.TypeUses.{begins_open}
 use Rattle.wm_read.specs.exact.Signatures.{signature_at}

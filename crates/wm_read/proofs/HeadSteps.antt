@@ -9,8 +9,8 @@ use Rattle.wm_tokens.specs.Tokens.{Token, open_paren, close_paren, string, atom}
 use Rattle.wm_tokens.specs.Identifiers.{Id, Ids, AreDistinct, WritesId}
 use Rattle.wm_tokens.specs.Written.{Names}
 use Rattle.wm_tokens.specs.Fields.{HasDistinct, WritesName}
-use Rattle.wm_read.specs.declared.fields.words.FieldKind.{FieldKind}
-use Rattle.wm_read.specs.declared.fields.words.FieldKind.TheVariants as field
+use Rattle.wm_read.specs.declared.fields.keywords.FieldKind.{FieldKind}
+use Rattle.wm_read.specs.declared.fields.keywords.FieldKind.TheVariants as field
 use Rattle.wm_read.specs.exact.Fields.{field_named, item_named, name_at, space_of}
 use Rattle.wm_read.specs.exact.FirstReading.{Noted, with_item, with_type, free_id_at, skip, type_head_at, desc_head_at, import_head_at, item_head_at, start_head_at, other_head_at, head_by, head_at, heads_within, heads_at, names_in}
 use Rattle.wm_read.specs.exact.Signatures.{signature_at}

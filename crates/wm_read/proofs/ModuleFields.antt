@@ -14,7 +14,7 @@ use Rattle.wm_tokens.specs.Tokens.{Token, open_paren, close_paren, string, atom}
 use Rattle.wm_tokens.specs.Written.{Named, Names, Scope, ids_of, types_of}
 use Rattle.std.specs.Prelude.{codes}
 use Rattle.wm_tokens.specs.Fields.{Field, type_field, import_field, function_field, table_field, memory_field, global_field, export_field, start_field, element_field, segment_field, module_of}
-use Rattle.wm_read.specs.declared.fields.words.FieldKind.{FieldKind}
+use Rattle.wm_read.specs.declared.fields.keywords.FieldKind.{FieldKind}
 use Rattle.wm_read.specs.inner.Fields.{head_at, or, with_field}
 use Rattle.wm_bodies.specs.inner.Pieces.{Opened, after, piece_ops}
 use Rattle.wm_bodies.specs.exact.Reading.{◌>>=◌, made, many_at, ops_at, ops_within, piece_at}

@@ -3,7 +3,7 @@ use Rattle.std.proofs.Common.{◌≡◌, ℕ, ◌<◌, ◌≤◌, List, ◌∷�
 use Rattle.wm_tokens.specs.Tokens.{Token, string, atom}
 use Rattle.wm_tokens.specs.exact.Scan.{after_spaces, ahead, first, lexed}
 use Rattle.wm_read.specs.exact.FirstReading.{skip}
-use Rattle.wm_tokens.specs.inner.Stretches.{Passes, here, over_blank, over_atom}
+use Rattle.wm_tokens.specs.inner.PlainSpans.{Passes, here, over_blank, over_atom}
 use Rattle.wm_tokens.proofs.Whole.{ahead_skips, ahead_takes, spaces_lexed, spaces_within, first_shorter}
 use Rattle.wm_read.proofs.HeadSteps.{skip_atom, skip_string}
 

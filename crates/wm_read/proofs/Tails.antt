@@ -12,8 +12,8 @@ use Rattle.wm_tokens.specs.Fields.{Field, WritesName}
 use Rattle.wm_tokens.specs.Identifiers.{Id, Ids, WritesId, Resolves}
 use Rattle.wm_syntax.specs.Types.{type_text}
 use Rattle.wm_tokens.specs.Written.{Named, Names, Paren, TypeUse, WritesGroup, WritesGroups, WritesResults, WritesType, WritesUnnamed}
-use Rattle.wm_read.specs.declared.fields.words.FieldKind.{FieldKind}
-use Rattle.wm_read.specs.declared.fields.words.FieldKind.TheVariants as field
+use Rattle.wm_read.specs.declared.fields.keywords.FieldKind.{FieldKind}
+use Rattle.wm_read.specs.declared.fields.keywords.FieldKind.TheVariants as field
 use Rattle.wm_read.specs.exact.Fields.{field_at, field_named, item_named, name_at, space_of}
 use Rattle.wm_read.specs.exact.FirstReading.{Noted, nothing, with_item, with_type, free_id_at, skip, type_head_at, desc_head_at, import_head_at, item_head_at, head_by, head_at, heads_within, heads_at, names_at}
 use Rattle.wm_bodies.specs.exact.NamedUses.{named_use_at}

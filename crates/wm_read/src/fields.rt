@@ -12,13 +12,13 @@ ghost use Rattle.wm_bodies.specs.inner.Views.{Reads};
 use crate::fields::constants::{constant, constant_end, offset};
 use crate::fields::functions::function;
 use crate::fields::items::{desc, item};
+use crate::fields::keywords::{FieldKind, field_kind};
 use crate::fields::signatures::signature;
 use crate::fields::strings::{bytes, name};
 use crate::fields::types::{global_type, limits, table_type};
-use crate::fields::words::{FieldKind, field_kind};
 use std::alloc::Global;
 use wm_bodies::identifiers::{Names, Space};
-use wm_bodies::operands::{begins_index, close, id, index, open};
+use wm_bodies::immediates::{begins_index, close, id, index, open};
 use wm_syntax::modules::{Element, Export, Function, GlobalDef, Import, Segment};
 use wm_syntax::profile::Profile;
 use wm_syntax::types::{FuncType, Limits};
@@ -27,11 +27,11 @@ use wm_tokens::faults::TextFault;
 pub(crate) mod constants;
 pub(crate) mod functions;
 pub(crate) mod items;
+pub(crate) mod keywords;
 pub(crate) mod lists;
 pub(crate) mod signatures;
 pub(crate) mod strings;
 pub(crate) mod types;
-pub(crate) mod words;
 
 /// A field, with the identifier that it defines.
 #[derive(Drop)]

@@ -10,18 +10,18 @@ ghost use Rattle.wm_bodies.specs.inner.Ids.{id_of};
 ghost use Rattle.wm_bodies.specs.inner.Views.{Reads};
 
 use crate::fields::items::space_of;
+use crate::fields::keywords::{FieldKind, field_kind, item_kind};
 use crate::fields::signatures::signature;
 use crate::fields::strings::name;
-use crate::fields::words::{FieldKind, field_kind, item_kind};
 use std::alloc::{AllocError, Global};
 use wm_bodies::identifiers::{Names, Space, is_new};
-use wm_bodies::operands::{begins_open, close, id, open, refuse};
+use wm_bodies::immediates::{begins_open, close, id, open, refuse};
 use wm_syntax::modules::ExportKind;
 use wm_syntax::profile::Profile;
 use wm_tokens::faults::{TextFault, TextWhy};
 use wm_tokens::lexeme::{Lexeme, next_token};
+use wm_tokens::plain_spans::after_spans;
 use wm_tokens::scan::{after_spaces, plain_atom};
-use wm_tokens::stretches::after_stretches;
 
 /// The definitions in the heads up to here.
 #[derive(Drop)]
@@ -82,8 +82,8 @@ fn skip(depth: usize, text: &[u8]) -> Result<&[u8], TextFault>
                     open -= 1;
                     rest = more;
                 }
-                Some((Lexeme::String(_), more)) => rest = after_stretches(more),
-                Some((Lexeme::Atom(_), more)) => rest = after_stretches(more),
+                Some((Lexeme::String(_), more)) => rest = after_spans(more),
+                Some((Lexeme::Atom(_), more)) => rest = after_spans(more),
                 None => return Err(refuse(TextWhy::Expected, rest)),
             },
         }

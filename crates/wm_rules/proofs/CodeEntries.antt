@@ -5,7 +5,7 @@ use Rattle.std.proofs.lemmas.List.{length-map}
 use Rattle.wm_syntax.specs.declared.types.ValType.{ValType}
 use Rattle.wm_syntax.specs.declared.instructions.Op.{Op}
 use Rattle.wm_syntax.specs.declared.why.Why.{Why}
-use Rattle.wm_stacks.specs.declared.entries.Frame.{Frame}
+use Rattle.wm_stacks.specs.declared.stack_entries.Frame.{Frame}
 use Rattle.wm_syntax.specs.Runs.{run_count}
 use Rattle.wm_stacks.specs.Stack.{height_sum}
 use Rattle.wm_typing.specs.declared.body_checker.Progress.{Progress}

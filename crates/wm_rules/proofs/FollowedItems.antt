@@ -12,7 +12,7 @@ use Rattle.wm_syntax.specs.declared.instructions.Op.TheVariants as op
 use Rattle.wm_syntax.specs.declared.why.Why.{Why}
 use Rattle.wm_syntax.specs.declared.why.Why.TheVariants as why
 use Rattle.wm_syntax.specs.Instructions.{Instructions}
-use Rattle.wm_stacks.specs.declared.entries.Frame.{Frame}
+use Rattle.wm_stacks.specs.declared.stack_entries.Frame.{Frame}
 use Rattle.wm_syntax.specs.Runs.{same}
 use Rattle.wm_syntax.specs.exact.Runs.{add_run}
 use Rattle.wm_typing.specs.Bodies.{Body, stats_after, BodyState}

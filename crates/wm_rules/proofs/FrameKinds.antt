@@ -4,15 +4,15 @@ use Rattle.wm_syntax.specs.declared.types.ValType.{ValType}
 use Rattle.wm_syntax.specs.declared.types.ValType.TheVariants.{I32}
 use Rattle.wm_syntax.specs.declared.why.Why.{Why}
 use Rattle.wm_syntax.specs.declared.why.Why.TheVariants as why
-use Rattle.wm_stacks.specs.declared.entries.Entry.{Entry}
-use Rattle.wm_stacks.specs.declared.entries.Entry.TheVariants.{Unknown}
-use Rattle.wm_stacks.specs.declared.entries.FrameKind.{FrameKind}
-use Rattle.wm_stacks.specs.declared.entries.Frame.{Frame}
-use Rattle.wm_stacks.specs.declared.entries.Reach.{Reach}
-use Rattle.wm_stacks.specs.declared.entries.Reach.TheVariants.{Whole, Floor}
+use Rattle.wm_stacks.specs.declared.stack_entries.Entry.{Entry}
+use Rattle.wm_stacks.specs.declared.stack_entries.Entry.TheVariants.{Unknown}
+use Rattle.wm_stacks.specs.declared.stack_entries.FrameKind.{FrameKind}
+use Rattle.wm_stacks.specs.declared.stack_entries.Frame.{Frame}
+use Rattle.wm_stacks.specs.declared.stack_entries.Reach.{Reach}
+use Rattle.wm_stacks.specs.declared.stack_entries.Reach.TheVariants.{Whole, Floor}
 use Rattle.wm_stacks.specs.Stack.{Stack, fits}
 use Rattle.wm_stacks.specs.exact.Stacks.{push, at_floor, pop_to, takes, take_above, in_frame, take_one, any_above, take_any, goes_on, take_all, cut, cut_at, close, close_at, count_after_move}
-use Rattle.wm_typing.specs.Entries.{join}
+use Rattle.wm_typing.specs.exact.OperandTypes.{join}
 use Rattle.wm_typing.specs.exact.Effects.{Effect, fixed, indirect, is_polymorphic, drops, selects, ill}
 use Rattle.wm_typing.specs.exact.Ops.{push_all, after_call, drive, push_joined, select_from, drive_close}
 

@@ -9,14 +9,14 @@ use Rattle.wm_syntax.specs.declared.why.Why.{Why}
 use Rattle.wm_syntax.specs.declared.why.Why.TheVariants as why
 use Rattle.wm_syntax.specs.Runs.{same}
 use Rattle.wm_syntax.proofs.SameTypes.{means, reflexive}
-use Rattle.wm_stacks.specs.declared.entries.Entry.{Entry}
-use Rattle.wm_stacks.specs.declared.entries.Entry.TheVariants as entry
-use Rattle.wm_stacks.specs.declared.entries.Frame.{Frame}
-use Rattle.wm_stacks.specs.declared.entries.Reach.{Reach}
-use Rattle.wm_stacks.specs.declared.entries.Reach.TheVariants.{Whole, Floor}
+use Rattle.wm_stacks.specs.declared.stack_entries.Entry.{Entry}
+use Rattle.wm_stacks.specs.declared.stack_entries.Entry.TheVariants as entry
+use Rattle.wm_stacks.specs.declared.stack_entries.Frame.{Frame}
+use Rattle.wm_stacks.specs.declared.stack_entries.Reach.{Reach}
+use Rattle.wm_stacks.specs.declared.stack_entries.Reach.TheVariants.{Whole, Floor}
 use Rattle.wm_stacks.specs.Stack.{Stack, fits}
 use Rattle.wm_stacks.specs.exact.Stacks.{any_above, at_floor, close, close_at, count_after_move, cut, goes_on, in_frame, look, pop_to, take_above, take_all, take_any, take_one, takes}
-use Rattle.wm_typing.specs.Entries.{join}
+use Rattle.wm_typing.specs.exact.OperandTypes.{join}
 use Rattle.wm_typing.specs.exact.Effects.{Effect, fixed, indirect, is_polymorphic, drops, selects, ill}
 use Rattle.wm_typing.specs.exact.Ops.{after_call, drive, drive_close, drive_fixed, push_all, push_joined, select_from}
 use Rattle.wm_typing.specs.inner.Frames.{Stands}

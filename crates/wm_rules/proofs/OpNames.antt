@@ -13,18 +13,18 @@ use Rattle.wm_syntax.specs.declared.instructions.Simple.{Simple}
 use Rattle.wm_syntax.specs.declared.instructions.Simple.TheVariants as simple
 use Rattle.wm_syntax.specs.Opcodes.{load, store}
 use Rattle.wm_syntax.specs.Types.{Signature}
-use Rattle.wm_stacks.specs.declared.entries.Entry.{Entry}
-use Rattle.wm_stacks.specs.declared.entries.Entry.TheVariants.{Unknown}
-use Rattle.wm_stacks.specs.declared.entries.FrameKind.{FrameKind}
-use Rattle.wm_stacks.specs.declared.entries.FrameKind.TheVariants.{Func, Block, Loop, If, Else}
-use Rattle.wm_stacks.specs.declared.entries.Frame.{Frame}
-use Rattle.wm_stacks.specs.declared.entries.Reach.{Reach}
-use Rattle.wm_stacks.specs.declared.entries.Reach.TheVariants.{Whole, Floor}
+use Rattle.wm_stacks.specs.declared.stack_entries.Entry.{Entry}
+use Rattle.wm_stacks.specs.declared.stack_entries.Entry.TheVariants.{Unknown}
+use Rattle.wm_stacks.specs.declared.stack_entries.FrameKind.{FrameKind}
+use Rattle.wm_stacks.specs.declared.stack_entries.FrameKind.TheVariants.{Func, Block, Loop, If, Else}
+use Rattle.wm_stacks.specs.declared.stack_entries.Frame.{Frame}
+use Rattle.wm_stacks.specs.declared.stack_entries.Reach.{Reach}
+use Rattle.wm_stacks.specs.declared.stack_entries.Reach.TheVariants.{Whole, Floor}
 use Rattle.wm_stacks.specs.Stack.{Stack, fits}
 use Rattle.wm_stacks.specs.exact.Stacks.{open_frame, count_after_move, pop_to, at_floor, takes, take_above, in_frame, take_one, take_all, goes_on, any_above, take_any, cut, close, close_at}
 use Rattle.wm_typing.specs.declared.labels.BrTable.{BrTable}
 use Rattle.wm_typing.specs.Typing.{Context, function_type}
-use Rattle.wm_typing.specs.Entries.{join}
+use Rattle.wm_typing.specs.exact.OperandTypes.{join}
 use Rattle.wm_typing.specs.exact.Effects.{Effect, fixed, indirect, is_polymorphic, drops, selects, ill, with_item, where_true, effect_of}
 use Rattle.wm_typing.specs.exact.Ops.{push_all, after_call as then_on, drive_fixed, drive_diverges, push_joined, select_from, drive, drive_close, else_of, drive_else, may_end, give_to, drive_end, drive_if, drive_count, with_table, goes_with, drive_known, drive_label, labels_of, within_frames, drive_op, step}
 use Rattle.wm_typing.specs.Bodies.{BodyState, Body}

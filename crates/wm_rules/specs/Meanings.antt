@@ -19,7 +19,7 @@ use Rattle.wm_syntax.specs.Modules.{locals_of}
 use Rattle.wm_syntax.specs.Types.{Signature}
 use Rattle.wm_syntax.specs.declared.types.ValType.{ValType}
 use Rattle.wm_syntax.specs.declared.types.ValType.TheVariants.{I32, I64, F32, F64}
-use Rattle.wm_stacks.specs.declared.entries.FrameKind.TheVariants.{If}
+use Rattle.wm_stacks.specs.declared.stack_entries.FrameKind.TheVariants.{If}
 use Rattle.wm_typing.specs.OpenLists.{Head, head, work, Place, open_at, within, complete, at, levels}
 use Rattle.wm_typing.specs.TypedBodies.{HaveTyping, IsTypedBody}
 use Rattle.wm_machine.specs.Flat.{FlatCode, code_items}

@@ -402,12 +402,12 @@ impl Builder {
     }
 
     // Out of line, so that the loop over ops is small enough for the common ones to be inlined there. The op is
-    // borrowed: a copy would go through memory. `push_near` is the fast path of most ops.
+    // borrowed: a copy would go through memory. `push_fast` is the fast path of most ops.
     #[inline(never)]
     fn take_op(&mut self, op: &Op) -> Result<(), Why>
         ensures { Taken (op_taken op.now (built self.old) (built self.old).code) result (built self.new) }
     {
-        if self.locals.is_some() && self.body.push_near(op) {
+        if self.locals.is_some() && self.body.push_fast(op) {
             return Ok(());
         }
         self.take_any_op(op)

@@ -19,7 +19,7 @@ use Rattle.wm_machine.specs.exact.MemberSteps.{data_or_over}
 use Rattle.wm_machine.specs.exact.Live.{IsAt, MayRunOutAtByte, decoder_after, live_or_refused, refusal_in_machine}
 use Rattle.wm_shortcuts.specs.exact.Shortcuts.{Advances, live_so}
 use Rattle.wm_machine.proofs.Header.{stays}
-use Rattle.wm_machine.proofs.Stretches.{data_decoded, data_ended, goes_on, is_refused, skips, still_live, stops}
+use Rattle.wm_machine.proofs.ByteRuns.{data_decoded, data_ended, goes_on, is_refused, skips, still_live, stops}
 
 pub not_both : (r : Option Why) (w : Why) → r ≡ None → r ≡ Some w → ⊥
 not_both r w a b = let s : None ≡ Some w = sym a ∙ b in cc

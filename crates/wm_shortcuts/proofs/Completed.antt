@@ -28,7 +28,7 @@ use Rattle.wm_shortcuts.specs.exact.Shortcuts.{Advances, live_so, why_refused}
 use Rattle.wm_shortcuts.proofs.Advances.{advances_by, advances_none, advances_on, advances_out, not_both, same_why}
 use Rattle.wm_machine.proofs.Header.{stays}
 use Rattle.wm_shortcuts.proofs.ShortSteps.{first_step, part_room}
-use Rattle.wm_machine.proofs.Stretches.{goes_on, is_refused, still_live, stops}
+use Rattle.wm_machine.proofs.ByteRuns.{goes_on, is_refused, still_live, stops}
 use Rattle.wm_shortcuts.proofs.WholeNames.{name_reached}
 
 -- what is answered where nothing is given

@@ -21,8 +21,8 @@ use Rattle.wm_machine.specs.declared.step.reading.Reading.TheVariants.{More, Don
 use Rattle.wm_machine.specs.declared.step.ops.Indexed.{Indexed}
 use Rattle.wm_machine.specs.declared.step.ops.LoadOrStore.{LoadOrStore}
 use Rattle.wm_machine.specs.declared.step.ops.LoadOrStore.TheVariants as accesses
-use Rattle.wm_machine.specs.declared.step.ops.Opening.{Opening}
-use Rattle.wm_machine.specs.declared.step.ops.Opening.TheVariants as openings
+use Rattle.wm_machine.specs.declared.step.ops.BlockOp.{BlockOp}
+use Rattle.wm_machine.specs.declared.step.ops.BlockOp.TheVariants as openings
 use Rattle.wm_machine.specs.declared.step.ops.Sizing.{Sizing}
 use Rattle.wm_machine.specs.declared.step.ops.Sizing.TheVariants as sizings
 use Rattle.wm_machine.specs.declared.step.ops.InOp.{InOp}
@@ -274,7 +274,7 @@ under_float_64 p bytes i depth one two three four five six seven bits within is 
       opens = refl;
     }
 
-pub whole_block : (bytes : List ℕ) (i depth inside : ℕ) (x : Opening) (t : Option ValType) → i + 1 < length bytes → Begins bytes i (at.BlockType x) → ((p : Profile) → block_step p x (slice_index bytes (i + 1)) ≡ Done (block_op x t))
+pub whole_block : (bytes : List ℕ) (i depth inside : ℕ) (x : BlockOp) (t : Option ValType) → i + 1 < length bytes → Begins bytes i (at.BlockType x) → ((p : Profile) → block_step p x (slice_index bytes (i + 1)) ≡ Done (block_op x t))
     → after_op depth (block_op x t) ≡ at_next_op inside → WholeOp bytes i (i + 2) depth inside (block_op x t)
 whole_block bytes i depth inside x t within first type opens = record {
   some = omega arith;
@@ -290,13 +290,13 @@ one_deeper depth less =
     let e : nat_lt depth (2 ^ 32 - 1) ≡ true = lt-ltb depth (2 ^ 32 - 1) less in
     ap (λ y. cond y (suc depth) depth) e ∙ (omega arith)
 
-block_opens : (x : Opening) (t : Option ValType) (depth : ℕ) → depth < 2 ^ 32 - 1 → after_op depth (block_op x t) ≡ at_next_op (depth + 1)
+block_opens : (x : BlockOp) (t : Option ValType) (depth : ℕ) → depth < 2 ^ 32 - 1 → after_op depth (block_op x t) ≡ at_next_op (depth + 1)
 block_opens openings.Block t depth less = ap at_next_op (one_deeper depth less)
 block_opens openings.Loop t depth less = ap at_next_op (one_deeper depth less)
 block_opens openings.If t depth less = ap at_next_op (one_deeper depth less)
 
 -- a block of a type that this byte names
-pub whole_typed : (bytes : List ℕ) (i depth c : ℕ) (x : Opening) (t : Option ValType) → i + 1 < length bytes → depth < 2 ^ 32 - 1 → Begins bytes i (at.BlockType x)
+pub whole_typed : (bytes : List ℕ) (i depth c : ℕ) (x : BlockOp) (t : Option ValType) → i + 1 < length bytes → depth < 2 ^ 32 - 1 → Begins bytes i (at.BlockType x)
     → slice_index bytes (i + 1) ≡ c → ((p : Profile) → block_step p x c ≡ Done (block_op x t)) → WholeOp bytes i (i + 2) depth (depth + 1) (block_op x t)
 whole_typed bytes i depth c x t within less first same type =
     whole_block bytes i depth (depth + 1) x t within first (λ p. ap (block_step p x) same ∙ type p) (block_opens x t depth less)

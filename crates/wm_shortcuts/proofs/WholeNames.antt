@@ -19,7 +19,7 @@ use Rattle.wm_machine.specs.exact.MemberSteps.{after_length, after_name, name_le
 use Rattle.wm_machine.specs.exact.Live.{decoder_after, live_from, name_taken}
 use Rattle.wm_shortcuts.specs.exact.Shortcuts.{live_so}
 use Rattle.wm_shortcuts.proofs.ShortSteps.{first_step}
-use Rattle.wm_machine.proofs.Stretches.{names}
+use Rattle.wm_machine.proofs.ByteRuns.{names}
 use Rattle.wm_shortcuts.proofs.WholeNumbers.{u32_one}
 
 module _ (of : SectionKind) (kind : NameKind) where

@@ -17,7 +17,7 @@ use crate::whole_numbers::Whole;
 use wm_machine::machine::Machine;
 use wm_machine::machine::member::{InEntry, InMember, SectionKind};
 use wm_machine::sink::Sink;
-use wm_machine::step::entries::runs_or_body;
+use wm_machine::step::code_entries::runs_or_body;
 use wm_machine::step::values::{InRun, value_type};
 use wm_syntax::profile::Profile;
 use wm_syntax::types::ValType;

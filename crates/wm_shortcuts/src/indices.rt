@@ -10,12 +10,12 @@ ghost use Rattle.wm_shortcuts.specs.exact.Indices.{most_indices};
 
 use crate::give::give_short_index;
 use crate::in_section::InSection;
-use crate::ways::{Shortcut, at_most};
+use crate::ways::{Shortcut, min_len};
 use crate::whole_indices::whole_indices;
 use wm_machine::machine::Machine;
 use wm_machine::machine::member::{InEntry, InMember, IndexOf, SectionKind};
 use wm_machine::sink::Sink;
-use wm_machine::step::entries::entry_framed;
+use wm_machine::step::code_entries::entry_framed;
 use wm_machine::step::expressions::{InExpression, opened};
 use wm_machine::step::framed;
 use wm_syntax::numbers::{Num32, short_front};
@@ -268,7 +268,7 @@ pub(crate) fn indices<S: Sink>(
     let Some(before) = InIndices::of(*machine) else {
         return Shortcut::none();
     };
-    let most = at_most(before.most(), bytes.len());
+    let most = min_len(before.most(), bytes.len());
     let count = short_front(&bytes[..most as usize]);
     if count < 2 {
         return whole_indices(sink, machine, before, profile, bytes);

@@ -4,9 +4,10 @@
 //! to the sink; the decoder does the rest.
 #![tactic(auto)]
 
+mod byte_runs;
 mod chains;
+mod code_entries;
 mod constants;
-mod entries;
 mod exports;
 mod frame_bytes;
 mod frames;
@@ -23,7 +24,6 @@ mod op_groups;
 mod segments;
 mod short_bytes;
 mod short_steps;
-mod stretches;
 pub mod ways;
 mod whole_indices;
 mod whole_names;

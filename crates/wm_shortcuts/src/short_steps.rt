@@ -8,7 +8,7 @@ ghost use Rattle.wm_shortcuts.specs.exact.ShortSteps.{StepsTo, standing};
 use crate::in_section::InSection;
 use wm_machine::machine::member::{InEntry, InMember, SectionKind};
 use wm_machine::machine::{Machine, Plain};
-use wm_machine::step::entries::runs_or_body;
+use wm_machine::step::code_entries::runs_or_body;
 use wm_machine::step::types::after_param;
 use wm_machine::step::values::{InRun, value_type};
 use wm_syntax::numbers::{Num32, Step};

@@ -3,8 +3,9 @@
 ghost use Rattle.std.specs.Prelude.{◌≡◌, ◌<◌, None, Some, length, min};
 ghost use Rattle.wm_shortcuts.specs.exact.Shortcuts.{Advances, why_refused};
 
+use crate::byte_runs::{data, pass};
 use crate::chains::Link;
-use crate::entries::{Body, LastEnd, entries};
+use crate::code_entries::{Body, LastEnd, entries};
 use crate::exports::exports;
 use crate::frames::frames;
 use crate::function_types::function_types;
@@ -15,7 +16,6 @@ use crate::indices::indices;
 use crate::limited::limited_member;
 use crate::segments::segment_head;
 use crate::short_bytes::short;
-use crate::stretches::{data, pass};
 use wm_machine::machine::member::{InEntry, InMember, IndexOf, SectionKind};
 use wm_machine::machine::{Machine, refusal_of};
 use wm_machine::sink::Sink;
@@ -73,7 +73,7 @@ impl Shortcut {
 }
 
 /// Returns the smaller of a count and a length.
-pub fn at_most(count: u32, len: usize) -> u32
+pub fn min_len(count: u32, len: usize) -> u32
     ensures { result ≡ min count len }
 {
     (count as usize).min(len) as u32

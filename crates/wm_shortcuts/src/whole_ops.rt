@@ -20,7 +20,7 @@ use crate::op_groups::{
 use crate::whole_numbers::{s32_at, s64_at, u32_at};
 use wm_machine::item::Item;
 use wm_machine::sink::Sink;
-use wm_machine::step::ops::{Indexed, LoadOrStore, Opening, Sizing, push_32, push_64};
+use wm_machine::step::ops::{BlockOp, Indexed, LoadOrStore, Sizing, push_32, push_64};
 use wm_syntax::instructions::FloatType::{F32, F64};
 use wm_syntax::instructions::IntType::{I32, I64};
 use wm_syntax::instructions::op_class::{Immediates, OpClass};
@@ -172,7 +172,7 @@ pub(crate) fn const_64(bytes: &[u8], at: usize, depth: u32) -> Option<Read>
 
 #[inline(always)]
 #[tactic(auto, using(crate::proofs::OpLists::whole_block))]
-fn with_type(bytes: &[u8], at: usize, depth: u32, op: Opening) -> Option<Read>
+fn with_type(bytes: &[u8], at: usize, depth: u32, op: BlockOp) -> Option<Read>
     requires within { at + 1 < length bytes.now }
     requires first { (p : Profile) → first_read p (slice_index bytes.now at) ≡ More (BlockType op) }
     ensures { IfSome result (λ r. WholeOp bytes.now at r.next depth r.depth r.op) }
@@ -382,9 +382,9 @@ fn take_common<S: Sink>(
             let op = Op::Simple(Simple::Nop);
             give(sink, room, alone(profile, bytes, at, depth, op))
         }
-        0x02 => give(sink, room, with_type(bytes, at, depth, Opening::Block)),
-        0x03 => give(sink, room, with_type(bytes, at, depth, Opening::Loop)),
-        0x04 => give(sink, room, with_type(bytes, at, depth, Opening::If)),
+        0x02 => give(sink, room, with_type(bytes, at, depth, BlockOp::Block)),
+        0x03 => give(sink, room, with_type(bytes, at, depth, BlockOp::Loop)),
+        0x04 => give(sink, room, with_type(bytes, at, depth, BlockOp::If)),
         0x05 => give(sink, room, alone(profile, bytes, at, depth, Op::Else)),
         0x0B => give(sink, room, end(profile, bytes, at, depth)),
         0x0C => give(sink, room, with_index(bytes, at, depth, Indexed::Br)),

@@ -3,8 +3,8 @@ use Rattle.std.proofs.Common.{ℕ, zero, suc, ◌≡◌, ◌≢◌, ◌-◌, ◌
 use Rattle.wm_syntax.specs.declared.types.ValType.{ValType}
 use Rattle.wm_syntax.specs.declared.why.Why.{Why}
 use Rattle.wm_syntax.specs.declared.why.Why.TheVariants.{Memory}
-use Rattle.wm_stacks.specs.declared.entries.Entry.{Entry}
-use Rattle.wm_stacks.specs.declared.entries.Entry.TheVariants as entry
+use Rattle.wm_stacks.specs.declared.stack_entries.Entry.{Entry}
+use Rattle.wm_stacks.specs.declared.stack_entries.Entry.TheVariants as entry
 use Rattle.wm_stacks.specs.declared.words.Kind.{Kind}
 use Rattle.wm_stacks.specs.declared.words.Kind.TheVariants.{Float}
 use Rattle.wm_stacks.specs.declared.widths.Widths.{Widths}

@@ -8,8 +8,8 @@ ghost use Rattle.wm_stacks.specs.exact.Near.{DoneOrLeft};
 ghost use Rattle.wm_stacks.specs.inner.Operands.{IsTold, PushesEntry, ReplacesEntries, entry_of, kind_of};
 ghost use Rattle.wm_stacks.specs.inner.Widths.{is_wide};
 
-use crate::entries::Entry;
 use crate::packed::Packed;
+use crate::stack_entries::Entry;
 use crate::widths::{IN_FIRST, Widths};
 use crate::words::Kind;
 use std::alloc::Global;
@@ -154,7 +154,7 @@ impl Operands {
     /// Pushes this float if the current word has a place for its kind, and the first word of widths for its
     /// bit. Otherwise, or if it is no float, returns false and changes nothing.
     #[inline(always)]
-    pub fn push_float_near(&mut self, float: Entry) -> bool
+    pub fn push_float_fast(&mut self, float: Entry) -> bool
         ensures { DoneOrLeft (PushesEntry float) result self.old self.new }
     {
         let height = self.packed.height();
@@ -166,14 +166,14 @@ impl Operands {
             return false;
         }
         self.widths.put(height, wide);
-        self.packed.push_near(Kind::Float)
+        self.packed.push_fast(Kind::Float)
     }
 
     /// Removes the top operand and pushes the given one, if any. Returns false and changes nothing unless one
     /// word shows that the top operand is above the floor and fits. It also returns false if either is a
     /// float, whose width is in another word.
     #[inline(always)]
-    pub fn replace_near(&mut self, expected: ValType, given: Option<Entry>) -> bool
+    pub fn replace_fast(&mut self, expected: ValType, given: Option<Entry>) -> bool
         ensures { DoneOrLeft (ReplacesEntries (expected ∷ []) given) result self.old self.new }
     {
         let Some(top) = whole_kind(expected) else {
@@ -182,12 +182,12 @@ impl Operands {
         if !has_no_width(given) {
             return false;
         }
-        self.packed.replace_near(top, kind_given(given))
+        self.packed.replace_fast(top, kind_given(given))
     }
 
-    /// As `replace_near`, for the two topmost operands.
+    /// As `replace_fast`, for the two topmost operands.
     #[inline(always)]
-    pub fn replace_two_near(&mut self, under: ValType, top: ValType, given: Option<Entry>) -> bool
+    pub fn replace_two_fast(&mut self, under: ValType, top: ValType, given: Option<Entry>) -> bool
         ensures { DoneOrLeft (ReplacesEntries (top ∷ under ∷ []) given) result self.old self.new }
     {
         let Some(second) = whole_kind(under) else {
@@ -200,13 +200,13 @@ impl Operands {
             return false;
         }
         self.packed
-            .replace_two_near(second, first, kind_given(given))
+            .replace_two_fast(second, first, kind_given(given))
     }
 
-    /// As `replace_near`, for a float whose width is in the first word of widths, so that no function is
+    /// As `replace_fast`, for a float whose width is in the first word of widths, so that no function is
     /// called. A float is pushed in its place only if it has that type.
     #[inline(always)]
-    pub fn replace_float_near(&mut self, expected: ValType, given: Option<Entry>) -> bool
+    pub fn replace_float_fast(&mut self, expected: ValType, given: Option<Entry>) -> bool
         ensures { DoneOrLeft (ReplacesEntries (expected ∷ []) given) result self.old self.new }
     {
         let height = self.packed.height();
@@ -216,12 +216,12 @@ impl Operands {
         if !is_of_width(expected, self.widths.is_wide(height - 1)) || !is_as_wide(given, expected) {
             return false;
         }
-        self.packed.replace_near(Kind::Float, kind_given(given))
+        self.packed.replace_fast(Kind::Float, kind_given(given))
     }
 
-    /// As `replace_float_near`, for two floats. A float is pushed only if it has the type of the lower one.
+    /// As `replace_float_fast`, for two floats. A float is pushed only if it has the type of the lower one.
     #[inline(always)]
-    pub fn replace_two_floats_near(
+    pub fn replace_two_floats_fast(
         &mut self,
         under: ValType,
         top: ValType,
@@ -240,7 +240,7 @@ impl Operands {
             return false;
         }
         self.packed
-            .replace_two_near(Kind::Float, Kind::Float, kind_given(given))
+            .replace_two_fast(Kind::Float, Kind::Float, kind_given(given))
     }
 
     /// Returns the top operand, or `None` if there is none above the floor.

@@ -8,6 +8,6 @@ mod decode;
 #[cfg(test)]
 mod rules;
 #[cfg(test)]
-mod words;
+mod script_words;
 #[cfg(test)]
 mod write;

@@ -8,4 +8,4 @@ pub mod Whole
 pub mod Parts
 pub mod StringFaults
 pub mod Places
-pub mod PlainStretches
+pub mod PlainSpans

@@ -3,4 +3,4 @@
 pub mod Ends
 pub mod Lexemes
 pub mod Places
-pub mod Stretches
+pub mod PlainSpans

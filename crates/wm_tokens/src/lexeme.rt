@@ -13,11 +13,11 @@ ghost use Rattle.wm_tokens.specs.inner.Lexemes.{token_of, bytes_of, ahead_of, Is
 ghost use Rattle.wm_tokens.specs.inner.Places.{HasNoFloat, IsFault, IsFloat};
 
 use crate::faults::{TextRefusal, TextWhy};
+use crate::plain_spans::after_spans;
 use crate::scan::{
     Class, Mode, Step, after_comment, after_line, after_spaces, after_string, atom_len, class_of,
     given_first, is_atom, is_float_alone, plain_atom, string_step,
 };
-use crate::stretches::after_stretches;
 use std::alloc::{AllocError, Global};
 
 /// A token as it is in the text. Core spec 6.2.2.
@@ -287,22 +287,22 @@ pub fn check_tokens(text: &[u8]) -> Result<(), TextRefusal>
 }
 
 /// Checks that a text has tokens. Fails with the first lexical error, if the text is UTF-8.
-#[tactic(auto, using(crate::proofs::Whole::stand_laws, crate::proofs::Places::step_laws, crate::proofs::PlainStretches::kept_laws))]
+#[tactic(auto, using(crate::proofs::Whole::stand_laws, crate::proofs::Places::step_laws, crate::proofs::PlainSpans::kept_laws))]
 fn check_whole(text: &[u8]) -> Result<(), TextRefusal>
     ensures tokens { MatchResult result (λ _. scan.has_tokens text.now ≡ true)
         (λ _. scan.has_tokens text.now ≡ false) }
     ensures fault { IfErr result (λ e. IsFault text.now e) }
 {
-    let mut rest = after_stretches(text);
+    let mut rest = after_spans(text);
     loop {
         match plain_atom(rest) {
             Some((_, more)) => rest = after_spaces(more),
             None => match ahead(rest) {
                 Found::Nothing => return Ok(()),
                 Found::Fault(why) => return Err(fault(text, rest, why)),
-                Found::Blank(more) => rest = after_stretches(more),
+                Found::Blank(more) => rest = after_spans(more),
                 Found::First(Lexeme::Open, more) => rest = after_spaces(more),
-                Found::First(_, more) => rest = after_stretches(more),
+                Found::First(_, more) => rest = after_spans(more),
             },
         }
     }

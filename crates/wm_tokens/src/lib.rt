@@ -5,5 +5,5 @@
 pub mod faults;
 pub mod laws;
 pub mod lexeme;
+pub mod plain_spans;
 pub mod scan;
-pub mod stretches;

@@ -90,7 +90,7 @@ static ID_CHARS: [u8; 256] = *b"\
 
 /// Whether this byte is a character of atoms, `idchar`. Core spec 6.3.5.
 #[inline(always)]
-pub fn is_id_char(byte: u8) -> bool
+pub(crate) fn is_id_char(byte: u8) -> bool
     ensures { result ≡ tokens.is_id_char byte }
 {
     ID_CHARS[byte as usize] != b','
@@ -159,7 +159,7 @@ fn within_run(text: &[u8]) -> &[u8]
 }
 
 /// Returns the text after a line comment, given the text after its `;;`. Core spec 6.2.4.
-pub fn after_line(text: &[u8]) -> &[u8]
+pub(crate) fn after_line(text: &[u8]) -> &[u8]
     ensures { result.now ≡ scan.after_line text.now }
 {
     let mut rest = within_line(text);
@@ -216,7 +216,7 @@ fn comment_part(text: &[u8]) -> Part
 /// Returns the text after a block comment, given the text after its `(;`. Returns `None` if the comment does
 /// not end. Core spec 6.2.4.
 #[tactic(auto, using(crate::proofs::Parts::part_laws))]
-pub fn after_comment(text: &[u8]) -> Option<&[u8]>
+pub(crate) fn after_comment(text: &[u8]) -> Option<&[u8]>
     ensures { MatchOption result (scan.after_comment zero text.now ≡ None)
         (λ r. scan.after_comment zero text.now ≡ Some r.now) }
 {
@@ -268,7 +268,7 @@ pub fn digit_value(byte: u8) -> Option<u8>
 /// Returns the effect of the next byte of a string. Core spec 6.3.3.
 #[inline(always)]
 #[tactic(auto, unfolding(crate::specs::exact::Scan::string_step))]
-pub fn string_step(mode: Mode, byte: u8) -> Step
+pub(crate) fn string_step(mode: Mode, byte: u8) -> Step
     requires { IsMode mode }
     ensures step { result ≡ scan.string_step mode byte }
     ensures next { IsStep result }
@@ -352,7 +352,7 @@ fn is_scalar(n: u32) -> bool
 /// with something else, or with an escape of more than three characters.
 #[inline(always)]
 #[tactic(auto, using(crate::proofs::Strings::rest_laws, crate::proofs::Strings::why_laws, crate::proofs::Strings::given_laws, crate::proofs::Strings::none_laws))]
-pub fn given_first(text: &[u8]) -> Option<(u8, &[u8])>
+pub(crate) fn given_first(text: &[u8]) -> Option<(u8, &[u8])>
     ensures rest { IfSome result (λ x. scan.rest_of (scan.string_in Plain text.now)
         ≡ scan.rest_of (scan.string_in Plain x.1.now)) }
     ensures why { IfSome result (λ x. scan.why_in Plain text.now ≡ scan.why_in Plain x.1.now) }
@@ -432,7 +432,7 @@ fn after_given(text: &[u8]) -> &[u8]
 /// the string does not end, and with `BadEscape` or `BadToken` at a byte that is not allowed. Core spec 6.3.3.
 #[inline(never)]
 #[tactic(auto, using(crate::proofs::Strings::rest_laws, crate::proofs::Strings::why_laws))]
-pub fn after_string(text: &[u8]) -> Result<&[u8], TextWhy>
+pub(crate) fn after_string(text: &[u8]) -> Result<&[u8], TextWhy>
     ensures rest { MatchResult result (λ r. scan.rest_of (scan.string_in Plain text.now) ≡ Some r.now)
         (λ _. scan.rest_of (scan.string_in Plain text.now) ≡ None) }
     ensures why { IfErr result (λ w. w ≡ scan.why_in Plain text.now) }
@@ -469,7 +469,7 @@ fn bad_in(mode: Mode) -> TextWhy
 
 /// The number of characters of atoms at the start of the text. It tests four a step, while four are left.
 #[inline(always)]
-pub fn atom_len(text: &[u8]) -> usize
+pub(crate) fn atom_len(text: &[u8]) -> usize
     ensures within { result ≤ length text.now }
     ensures atom { scan.atom_in text.now ≡ (take result text.now, drop result text.now) }
 {
@@ -569,7 +569,7 @@ fn plain_id(text: &[u8]) -> Option<(&[u8], &[u8])>
 
 /// Whether characters of atoms are an identifier (Core spec 6.3.5), a number (Core spec 6.3.1), a float
 /// (Core spec 6.3.2) or a keyword (Core spec 6.2.2).
-pub fn is_atom(atom: &[u8]) -> bool
+pub(crate) fn is_atom(atom: &[u8]) -> bool
     ensures { result ≡ scan.is_atom atom.now }
 {
     match atom {
@@ -601,7 +601,7 @@ fn is_literal(atom: &[u8]) -> bool
 }
 
 /// Whether an atom is a token only as a float, and so no token without floats. Core spec 6.3.2.
-pub fn is_float_alone(atom: &[u8]) -> bool
+pub(crate) fn is_float_alone(atom: &[u8]) -> bool
     ensures { result ≡ scan.is_float_alone atom.now }
 {
     match atom.first() {

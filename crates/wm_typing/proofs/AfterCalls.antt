@@ -5,8 +5,8 @@ use Rattle.wm_syntax.specs.declared.types.ValType.{ValType}
 use Rattle.wm_syntax.specs.declared.why.Why.{Why}
 use Rattle.wm_syntax.specs.declared.why.Why.TheVariants.{Memory, TooManyLocals}
 use Rattle.wm_syntax.specs.declared.instructions.Op.{Op}
-use Rattle.wm_stacks.specs.declared.entries.Frame.{Frame}
-use Rattle.wm_stacks.specs.declared.entries.FrameKind.TheVariants.{Func}
+use Rattle.wm_stacks.specs.declared.stack_entries.Frame.{Frame}
+use Rattle.wm_stacks.specs.declared.stack_entries.FrameKind.TheVariants.{Func}
 use Rattle.wm_stacks.specs.Stack.{Stack, bare, height_sum}
 use Rattle.wm_stacks.specs.exact.Stacks.{open_frame}
 use Rattle.wm_syntax.specs.Runs.{run_count}

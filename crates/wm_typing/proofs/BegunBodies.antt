@@ -7,7 +7,7 @@ use Rattle.wm_syntax.specs.declared.instructions.Simple.TheVariants.{Unreachable
 use Rattle.wm_syntax.specs.declared.instructions.Op.{Op}
 use Rattle.wm_syntax.specs.declared.instructions.Op.TheVariants as op
 use Rattle.wm_syntax.specs.Instructions.{Instruction, Instructions, none, snoc, simple, block, loop, choice}
-use Rattle.wm_stacks.specs.declared.entries.FrameKind.TheVariants.{Func, Block, Loop, If, Else}
+use Rattle.wm_stacks.specs.declared.stack_entries.FrameKind.TheVariants.{Func, Block, Loop, If, Else}
 use Rattle.wm_typing.specs.Typing.{Context, Typed, TypedInstruction}
 use Rattle.wm_typing.specs.OpenLists.{Head, head, Work, work, open_at, complete, at, CanType, IsOpen, IsSoFar, OpenCan, WorkCan}
 use Rattle.wm_typing.specs.TypedBodies.{IsTypedBody}

@@ -5,10 +5,10 @@ use Rattle.wm_syntax.specs.declared.types.ValType.TheVariants.{I32}
 use Rattle.wm_syntax.specs.declared.instructions.Simple.{Simple}
 use Rattle.wm_syntax.specs.declared.instructions.Op.{Op}
 use Rattle.wm_syntax.specs.declared.instructions.Op.TheVariants as op
-use Rattle.wm_stacks.specs.declared.entries.FrameKind.{FrameKind}
-use Rattle.wm_stacks.specs.declared.entries.FrameKind.TheVariants.{Func, Block, Loop, If, Else}
+use Rattle.wm_stacks.specs.declared.stack_entries.FrameKind.{FrameKind}
+use Rattle.wm_stacks.specs.declared.stack_entries.FrameKind.TheVariants.{Func, Block, Loop, If, Else}
 use Rattle.wm_typing.specs.Typing.{Context}
-use Rattle.wm_typing.specs.Entries.{entry_of_type}
+use Rattle.wm_typing.specs.exact.OperandTypes.{entry_of_type}
 use Rattle.wm_typing.specs.exact.Ops.{may_end, goes_with}
 use Rattle.wm_typing.specs.exact.Effects.{fixed, is_polymorphic, effect_of}
 use Rattle.wm_typing.specs.OpenLists.{Head, head, label_type, at}

@@ -4,8 +4,8 @@ use Rattle.std.proofs.lemmas.List.{reverse-append, reverse-reverse}
 use Rattle.std.proofs.Math.Seq.{take-append_seam, drop-append_seam}
 use Rattle.wm_syntax.specs.declared.types.ValType.{ValType}
 use Rattle.wm_syntax.specs.Instructions.{Instructions}
-use Rattle.wm_stacks.specs.declared.entries.Entry.{Entry}
-use Rattle.wm_stacks.specs.declared.entries.Frame.{Frame}
+use Rattle.wm_stacks.specs.declared.stack_entries.Entry.{Entry}
+use Rattle.wm_stacks.specs.declared.stack_entries.Frame.{Frame}
 use Rattle.wm_stacks.specs.Stack.{fits, AgreeAll, Denotes}
 use Rattle.wm_typing.specs.Typing.{Context, Typed}
 use Rattle.wm_typing.specs.OpenLists.{head_of, Work, work, at, taken_by}

@@ -4,8 +4,8 @@ use Rattle.wm_syntax.specs.declared.types.ValType.{ValType}
 use Rattle.wm_syntax.specs.declared.instructions.Op.{Op}
 use Rattle.wm_syntax.specs.declared.instructions.Op.TheVariants as op
 use Rattle.wm_syntax.specs.Instructions.{Instruction, Instructions, snoc, simple, table}
-use Rattle.wm_stacks.specs.declared.entries.FrameKind.{FrameKind}
-use Rattle.wm_stacks.specs.declared.entries.FrameKind.TheVariants.{Func, Block, Loop, If, Else}
+use Rattle.wm_stacks.specs.declared.stack_entries.FrameKind.{FrameKind}
+use Rattle.wm_stacks.specs.declared.stack_entries.FrameKind.TheVariants.{Func, Block, Loop, If, Else}
 use Rattle.wm_typing.specs.Nesting.{depth}
 use Rattle.wm_syntax.specs.Instructions.{opens, closes, openings, endings}
 use Rattle.wm_typing.specs.OpenLists.{Head, head, Work, work, Place, open_at, within, complete, levels, work_nesting, deepest_so_far}

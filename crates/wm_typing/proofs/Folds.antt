@@ -4,7 +4,7 @@ use Rattle.wm_syntax.specs.declared.types.ValType.{ValType}
 use Rattle.wm_syntax.specs.declared.why.Why.{Why}
 use Rattle.wm_syntax.specs.declared.why.Why.TheVariants.{BodyEnd}
 use Rattle.wm_syntax.specs.declared.instructions.Op.{Op}
-use Rattle.wm_stacks.specs.declared.entries.Frame.{Frame}
+use Rattle.wm_stacks.specs.declared.stack_entries.Frame.{Frame}
 use Rattle.wm_typing.specs.Typing.{Context}
 use Rattle.wm_typing.specs.Contexts.{body_context}
 use Rattle.wm_typing.specs.exact.Ops.{step}

@@ -3,11 +3,11 @@ use Rattle.std.proofs.Common.{◌≡◌, Bool, true, false, cond, IsTrue, List, 
 use Rattle.std.proofs.lemmas.List.{reverse-append, reverse-reverse}
 use Rattle.wm_syntax.specs.declared.types.ValType.{ValType}
 use Rattle.wm_syntax.specs.declared.types.ValType.TheVariants.{I32, I64, F32, F64}
-use Rattle.wm_stacks.specs.declared.entries.Entry.{Entry}
-use Rattle.wm_stacks.specs.declared.entries.Entry.TheVariants.{I32 as Int32, I64 as Int64, F32 as Float32, F64 as Float64, Unknown}
+use Rattle.wm_stacks.specs.declared.stack_entries.Entry.{Entry}
+use Rattle.wm_stacks.specs.declared.stack_entries.Entry.TheVariants.{I32 as Int32, I64 as Int64, F32 as Float32, F64 as Float64, Unknown}
 use Rattle.wm_stacks.specs.Stack.{fits}
 use Rattle.wm_syntax.proofs.SameTypes.{means}
-use Rattle.wm_typing.specs.Entries.{entry_of_type, join}
+use Rattle.wm_typing.specs.exact.OperandTypes.{entry_of_type, join}
 use Rattle.wm_typing.specs.exact.Effects.{Effect, fixed, indirect, is_polymorphic, drops, selects, ill}
 use Rattle.wm_typing.specs.inner.Frames.{Pile, Stands}
 use Rattle.wm_typing.proofs.Effects.{HasShape}

@@ -2,10 +2,10 @@
 use Rattle.std.proofs.Common.{Bool, true, false, List, [], ◌∷◌, ◌++◌, Option, Some, None, reverse, map, if◌then◌else◌}
 use Rattle.wm_syntax.specs.declared.types.ValType.{ValType}
 use Rattle.wm_syntax.specs.declared.types.ValType.TheVariants.{I32}
-use Rattle.wm_stacks.specs.declared.entries.Entry.{Entry}
-use Rattle.wm_stacks.specs.declared.entries.Entry.TheVariants.{Unknown}
+use Rattle.wm_stacks.specs.declared.stack_entries.Entry.{Entry}
+use Rattle.wm_stacks.specs.declared.stack_entries.Entry.TheVariants.{Unknown}
 use Rattle.wm_stacks.specs.Stack.{fits}
-use Rattle.wm_typing.specs.Entries.{entry_of_type, join}
+use Rattle.wm_typing.specs.exact.OperandTypes.{entry_of_type, join}
 use Rattle.wm_typing.specs.exact.Effects.{Effect, fixed, indirect, is_polymorphic, drops, selects, ill}
 use Rattle.wm_typing.specs.inner.Frames.{Pile}
 

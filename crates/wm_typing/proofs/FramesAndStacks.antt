@@ -6,14 +6,14 @@ use Rattle.wm_syntax.specs.declared.types.ValType.{ValType}
 use Rattle.wm_syntax.specs.declared.types.ValType.TheVariants.{I32}
 use Rattle.wm_syntax.specs.declared.why.Why.{Why}
 use Rattle.wm_syntax.specs.declared.why.Why.TheVariants as why
-use Rattle.wm_stacks.specs.declared.entries.Entry.{Entry}
-use Rattle.wm_stacks.specs.declared.entries.FrameKind.{FrameKind}
-use Rattle.wm_stacks.specs.declared.entries.FrameKind.TheVariants.{Func, Block, Loop, If, Else}
-use Rattle.wm_stacks.specs.declared.entries.Frame.{Frame}
-use Rattle.wm_stacks.specs.declared.entries.Reach.{Reach}
+use Rattle.wm_stacks.specs.declared.stack_entries.Entry.{Entry}
+use Rattle.wm_stacks.specs.declared.stack_entries.FrameKind.{FrameKind}
+use Rattle.wm_stacks.specs.declared.stack_entries.FrameKind.TheVariants.{Func, Block, Loop, If, Else}
+use Rattle.wm_stacks.specs.declared.stack_entries.Frame.{Frame}
+use Rattle.wm_stacks.specs.declared.stack_entries.Reach.{Reach}
 use Rattle.wm_stacks.specs.Stack.{Stack}
 use Rattle.wm_stacks.specs.exact.Stacks.{open_frame, count_after_move, take_all, close}
-use Rattle.wm_typing.specs.Entries.{entry_of_type}
+use Rattle.wm_typing.specs.exact.OperandTypes.{entry_of_type}
 use Rattle.wm_typing.specs.exact.Effects.{fixed}
 use Rattle.wm_typing.specs.OpenLists.{head, head_of}
 use Rattle.wm_typing.specs.inner.Frames.{Pile, Frames, running, ended, Segments, piles_of, Nested, Tracks}

@@ -6,8 +6,8 @@ use Rattle.wm_syntax.specs.declared.why.Why.{Why}
 use Rattle.wm_syntax.specs.declared.instructions.Op.{Op}
 use Rattle.wm_syntax.specs.declared.instructions.Op.TheVariants as op
 use Rattle.wm_syntax.specs.Instructions.{Instructions, HasOps}
-use Rattle.wm_stacks.specs.declared.entries.FrameKind.TheVariants.{Func}
-use Rattle.wm_stacks.specs.declared.entries.Frame.{Frame}
+use Rattle.wm_stacks.specs.declared.stack_entries.FrameKind.TheVariants.{Func}
+use Rattle.wm_stacks.specs.declared.stack_entries.Frame.{Frame}
 use Rattle.wm_stacks.specs.Stack.{Stack, bare}
 use Rattle.wm_stacks.specs.exact.Stacks.{open_frame}
 use Rattle.wm_typing.specs.declared.labels.BrTable.{BrTable}

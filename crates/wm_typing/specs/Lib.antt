@@ -1,7 +1,6 @@
 pub mod Answers
 pub mod Bodies
 pub mod Contexts
-pub mod Entries
 pub mod Nesting
 pub mod OpenLists
 pub mod Probes

@@ -7,9 +7,9 @@ use Rattle.wm_syntax.specs.declared.types.ValType.TheVariants.{I32}
 use Rattle.wm_syntax.specs.declared.instructions.Op.{Op}
 use Rattle.wm_syntax.specs.declared.instructions.Op.TheVariants as op
 use Rattle.wm_syntax.specs.Instructions.{Instructions, none, HasOps}
-use Rattle.wm_stacks.specs.declared.entries.FrameKind.{FrameKind}
-use Rattle.wm_stacks.specs.declared.entries.FrameKind.TheVariants.{Func, Block, Loop, If, Else}
-use Rattle.wm_stacks.specs.declared.entries.Frame.{Frame}
+use Rattle.wm_stacks.specs.declared.stack_entries.FrameKind.{FrameKind}
+use Rattle.wm_stacks.specs.declared.stack_entries.FrameKind.TheVariants.{Func, Block, Loop, If, Else}
+use Rattle.wm_stacks.specs.declared.stack_entries.Frame.{Frame}
 use Rattle.wm_typing.specs.Nesting.{nesting}
 use Rattle.wm_typing.specs.Typing.{Context, Typed}
 

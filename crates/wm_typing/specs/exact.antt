@@ -4,6 +4,7 @@ pub mod Answers
 pub mod Bodies
 pub mod Effects
 pub mod Folds
+pub mod OperandTypes
 pub mod Ops
 pub mod Raises
 pub mod Takes

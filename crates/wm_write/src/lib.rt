@@ -3,7 +3,7 @@
 #![tactic(auto)]
 
 mod batch;
-pub mod check;
+pub mod check_module;
 pub mod encode;
 pub mod in_memory;
 pub mod laws;

@@ -24,7 +24,7 @@ use wm_syntax::modules::Module;
 pub(crate) mod body_lines;
 pub(crate) mod fields;
 pub(crate) mod float_text;
-pub(crate) mod words;
+pub(crate) mod tokens;
 
 /// Why a module was not printed whole.
 #[derive(Clone, Copy, PartialEq, Eq, Debug, Error)]

@@ -21,8 +21,8 @@ use Rattle.wm_syntax.specs.Opcodes.{load, store}
 use Rattle.wm_syntax.specs.Profiles.{has, type_feature}
 use Rattle.wm_tokens.specs.Tokens.{Token, open_paren, close_paren, atom, is_lower}
 use Rattle.wm_tokens.specs.exact.Scan.{magnitude_of, is_nil}
-use Rattle.wm_bodies.specs.declared.blocks.Opening.{Opening}
-use Rattle.wm_bodies.specs.declared.blocks.Opening.TheVariants.{Block, Loop, If}
+use Rattle.wm_bodies.specs.declared.blocks.BlockKeyword.{BlockKeyword}
+use Rattle.wm_bodies.specs.declared.blocks.BlockKeyword.TheVariants.{Block, Loop, If}
 use Rattle.wm_tokens.specs.Identifiers.{Id, Ids}
 use Rattle.wm_syntax.specs.Types.{type_text}
 use Rattle.wm_tokens.specs.Written.{Scope}
@@ -226,7 +226,7 @@ closes_at (b ∷ bs) k = made (λ x. closes) (again_at b.id k)
 abbrev pub simple_at : {X : Type 0} → (X → Simple) → Reader X → Reader Piece
 simple_at f r k = made (λ x. plain (f x)) (r k)
 
-abbrev pub opens_at : Profile → Opening → Reader Piece
+abbrev pub opens_at : Profile → BlockKeyword → Reader Piece
 opens_at p o k = made (λ x. opens o x.0 x.1) (then_at id_at (block_type_at p) k)
 
 -- The reader of a call_indirect's type use is a parameter: `TypeUses.antt` has it.

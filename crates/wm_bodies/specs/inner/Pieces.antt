@@ -8,8 +8,8 @@ use Rattle.wm_syntax.specs.declared.instructions.Op.TheVariants as op
 use Rattle.wm_syntax.specs.declared.profile.Profile.{Profile}
 use Rattle.wm_syntax.specs.Profiles.{HasBlockType, HasSimple}
 use Rattle.wm_tokens.specs.Tokens.{Token}
-use Rattle.wm_bodies.specs.declared.blocks.Opening.{Opening}
-use Rattle.wm_bodies.specs.declared.blocks.Opening.TheVariants.{Block, Loop, If}
+use Rattle.wm_bodies.specs.declared.blocks.BlockKeyword.{BlockKeyword}
+use Rattle.wm_bodies.specs.declared.blocks.BlockKeyword.TheVariants.{Block, Loop, If}
 use Rattle.wm_tokens.specs.Identifiers.{Id, Ids}
 use Rattle.wm_tokens.specs.Written.{Scope, WritesSimple, WritesTable, Opens, Closes}
 
@@ -28,21 +28,21 @@ labels bs = map (λ b. b.id) bs
 pub data Piece : Type 0 where
   plain : Simple → Piece
   jump : List ℕ → ℕ → Piece
-  opens : Opening → Id → Option ValType → Piece
+  opens : BlockKeyword → Id → Option ValType → Piece
   middle : Piece
   closes : Piece
 
-abbrev pub is_if : Opening → Bool
+abbrev pub is_if : BlockKeyword → Bool
 is_if If = true
 is_if Block = false
 is_if Loop = false
 
-abbrev pub opening_word : Opening → List ℕ
+abbrev pub opening_word : BlockKeyword → List ℕ
 opening_word Block = codes "block"
 opening_word Loop = codes "loop"
 opening_word If = codes "if"
 
-abbrev pub opening_op : Opening → Option ValType → Op
+abbrev pub opening_op : BlockKeyword → Option ValType → Op
 opening_op Block t = op.Block t
 opening_op Loop t = op.Loop t
 opening_op If t = op.If t

@@ -3,9 +3,9 @@
 
 use super::ends::{BROKEN, Fault, INTERRUPTED, Mode, Reader, Writer};
 use std::alloc::Global;
+use wm_command::arguments::{Action, Line};
 use wm_command::run::run;
 use wm_command::status::Status;
-use wm_command::words::{Action, Line};
 use wm_decode::Refusal;
 use wm_rules::{Checked, FromFault, load_from, validate_from};
 use wm_syntax::io::input::Input;

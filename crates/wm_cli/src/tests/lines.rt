@@ -4,8 +4,8 @@ use super::rows::play;
 use std::alloc::Global;
 use std::process::Abort;
 use std::test::Fail;
+use wm_command::arguments::LineFault;
 use wm_command::line::line;
-use wm_command::words::LineFault;
 
 /// What words are read as, and what is said of wrong ones.
 const LINES: &str = r#"read wmod check = Check One 4294967295 None None None Standard None None

@@ -19,8 +19,8 @@ use Rattle.wm_syntax.specs.declared.instructions.op_class.OpClass.{OpClass}
 use Rattle.wm_syntax.specs.declared.instructions.op_class.OpClass.TheVariants.{Plain, With, Float, None}
 use Rattle.wm_machine.specs.declared.step.reading.Reading.{Reading}
 use Rattle.wm_machine.specs.declared.step.reading.Reading.TheVariants.{More, Done, Bad}
-use Rattle.wm_machine.specs.declared.step.ops.Opening.{Opening}
-use Rattle.wm_machine.specs.declared.step.ops.Opening.TheVariants as opening
+use Rattle.wm_machine.specs.declared.step.ops.BlockOp.{BlockOp}
+use Rattle.wm_machine.specs.declared.step.ops.BlockOp.TheVariants as opening
 use Rattle.wm_machine.specs.declared.step.ops.Indexed.{Indexed}
 use Rattle.wm_machine.specs.declared.step.ops.Indexed.TheVariants as indexed
 use Rattle.wm_machine.specs.declared.step.ops.Sizing.{Sizing}
@@ -32,7 +32,7 @@ use Rattle.wm_machine.specs.declared.step.ops.InOp.TheVariants as at
 use Rattle.wm_machine.specs.exact.ValueSteps.{read_type, value_type_of}
 
 -- ops by their immediates
-abbrev pub block_op : Opening → Option ValType → Op
+abbrev pub block_op : BlockOp → Option ValType → Op
 block_op opening.Block t = op.Block t
 block_op opening.Loop t = op.Loop t
 block_op opening.If t = op.If t
@@ -119,7 +119,7 @@ first_step (With kind) = More (immediates kind)
 first_step Float = Bad why.Float
 first_step None = Bad why.BadOpcode
 
-abbrev pub block_step : Profile → Opening → ℕ → Reading InOp Op
+abbrev pub block_step : Profile → BlockOp → ℕ → Reading InOp Op
 block_step p o c =
     if c == 0x40 then Done (block_op o Nothing)
     else read_type (value_type_of p c) (λ t. Done (block_op o (Some t)))

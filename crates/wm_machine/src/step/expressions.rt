@@ -123,7 +123,11 @@ impl InExpression {
 }
 
 /// Returns the next state inside an expression, and the op or label that this byte completes.
-pub fn expression_byte(profile: Profile, at: InExpression, byte: u8) -> (InExpression, Option<Op>)
+pub(crate) fn expression_byte(
+    profile: Profile,
+    at: InExpression,
+    byte: u8,
+) -> (InExpression, Option<Op>)
     ensures { result ≡ expression_step profile at byte }
 {
     match at {

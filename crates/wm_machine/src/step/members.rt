@@ -10,7 +10,7 @@ ghost use Rattle.wm_machine.specs.exact.MemberSteps.{member_step};
 
 use crate::machine::member::{ConstantOf, InMember, IndexOf, LengthOf, SectionKind};
 use crate::machine::{Event, NameKind, Plain};
-use crate::step::entries::{entry, entry_size};
+use crate::step::code_entries::{entry, entry_size};
 use crate::step::expressions::{InExpression, expression_byte};
 use crate::step::reading::Reading::{Bad, Done, More};
 use crate::step::types::{param, param_count, result_count, result_type, type_form};
@@ -251,7 +251,7 @@ fn length(of: LengthOf, mut number: Num32, byte: u8) -> (InMember, Event)
 }
 
 /// Returns the state inside a member after one more byte, and the effect of this byte.
-pub fn member_byte(profile: Profile, at: InMember, byte: u8) -> (InMember, Event)
+pub(crate) fn member_byte(profile: Profile, at: InMember, byte: u8) -> (InMember, Event)
     ensures { result ≡ member_step profile at byte }
 {
     match at {

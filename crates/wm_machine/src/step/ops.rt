@@ -20,22 +20,22 @@ use wm_syntax::why::Why;
 
 /// An op that opens a block.
 #[derive(Clone, Copy)]
-pub enum Opening {
+pub enum BlockOp {
     Block,
     Loop,
     If,
 }
 
-impl Opening {
+impl BlockOp {
     /// Returns the op with this block type.
     #[inline(always)]
     pub fn op(self, ty: Option<ValType>) -> Op
         ensures { result ≡ block_op self ty }
     {
         match self {
-            Opening::Block => Op::Block(ty),
-            Opening::Loop => Op::Loop(ty),
-            Opening::If => Op::If(ty),
+            BlockOp::Block => Op::Block(ty),
+            BlockOp::Loop => Op::Loop(ty),
+            BlockOp::If => Op::If(ty),
         }
     }
 }
@@ -119,7 +119,7 @@ impl LoadOrStore {
 pub enum InOp {
     /// Before its first byte.
     First,
-    BlockType(Opening),
+    BlockType(BlockOp),
     Index {
         op: Indexed,
         number: Num32,
@@ -173,9 +173,9 @@ fn immediates(kind: Immediates) -> InOp
     ensures { result ≡ immediates kind }
 {
     match kind {
-        Immediates::Block => InOp::BlockType(Opening::Block),
-        Immediates::Loop => InOp::BlockType(Opening::Loop),
-        Immediates::If => InOp::BlockType(Opening::If),
+        Immediates::Block => InOp::BlockType(BlockOp::Block),
+        Immediates::Loop => InOp::BlockType(BlockOp::Loop),
+        Immediates::If => InOp::BlockType(BlockOp::If),
         Immediates::Br => before_index(Indexed::Br),
         Immediates::BrIf => before_index(Indexed::BrIf),
         Immediates::BrTable => before_index(Indexed::BrTable),
@@ -208,7 +208,7 @@ fn first(profile: Profile, byte: u8) -> Reading<InOp, Op>
     }
 }
 
-fn block_type(profile: Profile, op: Opening, byte: u8) -> Reading<InOp, Op>
+fn block_type(profile: Profile, op: BlockOp, byte: u8) -> Reading<InOp, Op>
     ensures { result ≡ block_step profile op byte }
 {
     if byte == 0x40 {

@@ -12,7 +12,7 @@ use wm_syntax::profile::Profile;
 use wm_syntax::why::Why;
 
 /// Takes the byte 60 that begins a function type. Fails with `BadByte`.
-pub fn type_form(byte: u8) -> (InMember, Event)
+pub(crate) fn type_form(byte: u8) -> (InMember, Event)
     ensures { result ≡ type_form_step byte }
 {
     if byte == 0x60 {
@@ -38,7 +38,7 @@ pub fn after_param(left: u32) -> InMember
 }
 
 /// Takes a byte of the parameter count. Fails with `BadNumber`.
-pub fn param_count(mut number: Num32, byte: u8) -> (InMember, Event)
+pub(crate) fn param_count(mut number: Num32, byte: u8) -> (InMember, Event)
     ensures { result ≡ param_count_step number byte }
 {
     match number.push(byte) {

@@ -124,7 +124,7 @@ pub enum InGlobalType {
 }
 
 /// Takes a byte of a global type. Fails as `value_type` does, or with `BadByte` for its mutability.
-pub fn global_type_byte(
+pub(crate) fn global_type_byte(
     profile: Profile,
     at: InGlobalType,
     byte: u8,
@@ -270,7 +270,7 @@ fn run_count(mut number: Num32, byte: u8) -> Reading<InRun, (u32, ValType)>
 }
 
 /// Takes a byte of a run of locals. Fails with `BadNumber`, or as `value_type` does.
-pub fn run_byte(profile: Profile, at: InRun, byte: u8) -> Reading<InRun, (u32, ValType)>
+pub(crate) fn run_byte(profile: Profile, at: InRun, byte: u8) -> Reading<InRun, (u32, ValType)>
     ensures { result ≡ run_push profile at byte }
 {
     match at {

@@ -22,8 +22,8 @@ use Rattle.wm_tokens.specs.Identifiers.{Id, Ids}
 use Rattle.wm_tokens.specs.Written.{Named, Names, types_of, ids_of}
 use Rattle.wm_tokens.specs.Fields.{Field, type_field, import_field, function_field, table_field, memory_field}
 use Rattle.wm_tokens.specs.Fields.{global_field, export_field, start_field, element_field, segment_field}
-use Rattle.wm_read.specs.declared.fields.words.FieldKind.{FieldKind}
-use Rattle.wm_read.specs.declared.fields.words.FieldKind.TheVariants as field
+use Rattle.wm_read.specs.declared.fields.keywords.FieldKind.{FieldKind}
+use Rattle.wm_read.specs.declared.fields.keywords.FieldKind.TheVariants as field
 use Rattle.wm_bodies.specs.exact.Reading.{Reader, ◌>>=◌, made, same_bytes, open_at, close_at, atom_at, then_at}
 use Rattle.wm_bodies.specs.exact.Reading.{paren_at, many_at, id_at, index_of, is_new, integer_of, labels_at}
 use Rattle.wm_read.specs.exact.FieldTypes.{limits_at, table_type_at, global_type_at}

@@ -9,8 +9,8 @@ use Rattle.wm_syntax.specs.Types.{Signature}
 use Rattle.wm_tokens.specs.Tokens.{Token, open_paren, close_paren, string, atom}
 use Rattle.wm_tokens.specs.Identifiers.{Id, Ids}
 use Rattle.wm_tokens.specs.Written.{Names}
-use Rattle.wm_read.specs.declared.fields.words.FieldKind.{FieldKind}
-use Rattle.wm_read.specs.declared.fields.words.FieldKind.TheVariants as field
+use Rattle.wm_read.specs.declared.fields.keywords.FieldKind.{FieldKind}
+use Rattle.wm_read.specs.declared.fields.keywords.FieldKind.TheVariants as field
 use Rattle.wm_read.specs.exact.Fields.{field_named, item_named, name_at, space_of}
 use Rattle.wm_read.specs.exact.Signatures.{signature_at}
 use Rattle.wm_bodies.specs.exact.Reading.{Reader, ◌>>=◌, made, open_at, close_at, atom_at, id_at, is_new}

@@ -7,12 +7,12 @@ ghost use Rattle.wm_bodies.specs.inner.Blocks.{names_of};
 ghost use Rattle.wm_bodies.specs.inner.Ids.{id_of};
 ghost use Rattle.wm_bodies.specs.inner.Views.{Reads};
 
+use crate::fields::keywords::item_kind;
 use crate::fields::types::{global_type, limits, table_type};
-use crate::fields::words::item_kind;
 use std::alloc::Global;
 use wm_bodies::identifiers::{Names, Space};
+use wm_bodies::immediates::{close, close_forms, id, index, open, with};
 use wm_bodies::named_uses::named_use;
-use wm_bodies::operands::{close, close_forms, id, index, open, with};
 use wm_syntax::modules::{ExportKind, ImportDesc};
 use wm_syntax::profile::Profile;
 use wm_tokens::faults::TextFault;

@@ -2,8 +2,8 @@
 -- answer says which.
 use Rattle.std.specs.Prelude.{◌≡◌, Bool, true, false, List, Option, Some, None, Ok}
 use Rattle.wm_syntax.specs.declared.types.ValType.{ValType}
-use Rattle.wm_stacks.specs.declared.entries.Entry.{Entry}
-use Rattle.wm_stacks.specs.declared.entries.Reach.TheVariants.{Whole}
+use Rattle.wm_stacks.specs.declared.stack_entries.Entry.{Entry}
+use Rattle.wm_stacks.specs.declared.stack_entries.Reach.TheVariants.{Whole}
 use Rattle.wm_stacks.specs.Stack.{Stack}
 use Rattle.wm_stacks.specs.exact.Stacks.{push, take_all}
 

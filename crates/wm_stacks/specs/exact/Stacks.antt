@@ -6,12 +6,12 @@ use Rattle.std.specs.Prelude.{length, nat_le, nat_lt, if◌then◌else◌}
 use Rattle.wm_syntax.specs.declared.types.ValType.{ValType}
 use Rattle.wm_syntax.specs.declared.why.Why.{Why}
 use Rattle.wm_syntax.specs.declared.why.Why.TheVariants.{Mismatch, Arity}
-use Rattle.wm_stacks.specs.declared.entries.Entry.{Entry}
-use Rattle.wm_stacks.specs.declared.entries.Entry.TheVariants.{Unknown}
-use Rattle.wm_stacks.specs.declared.entries.FrameKind.{FrameKind}
-use Rattle.wm_stacks.specs.declared.entries.Frame.{Frame}
-use Rattle.wm_stacks.specs.declared.entries.Reach.{Reach}
-use Rattle.wm_stacks.specs.declared.entries.Reach.TheVariants.{Whole, Floor}
+use Rattle.wm_stacks.specs.declared.stack_entries.Entry.{Entry}
+use Rattle.wm_stacks.specs.declared.stack_entries.Entry.TheVariants.{Unknown}
+use Rattle.wm_stacks.specs.declared.stack_entries.FrameKind.{FrameKind}
+use Rattle.wm_stacks.specs.declared.stack_entries.Frame.{Frame}
+use Rattle.wm_stacks.specs.declared.stack_entries.Reach.{Reach}
+use Rattle.wm_stacks.specs.declared.stack_entries.Reach.TheVariants.{Whole, Floor}
 use Rattle.wm_stacks.specs.Stack.{Stack, fits, fresh_frame, marked_frames, moves_after}
 
 -- The first element, and the elements after it.

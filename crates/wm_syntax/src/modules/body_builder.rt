@@ -156,7 +156,7 @@ fn push_op(
 // The fast path for an instruction without a list, outside of a br_table, if there is room. The op is
 // borrowed, since a copy would go through memory.
 #[inline(always)]
-fn push_near(ops: &mut SizedOps, left: u64, op: &Op) -> bool
+fn push_fast(ops: &mut SizedOps, left: u64, op: &Op) -> bool
     ensures ops { result ≡ true → ops.new ≡ next_ops op.now ops.old }
     ensures begun { result ≡ true → (begun : List Opened) → next_open op.now begun ≡ begun }
     ensures labels { result ≡ true → next_left op.now left ≡ left }
@@ -164,7 +164,7 @@ fn push_near(ops: &mut SizedOps, left: u64, op: &Op) -> bool
     ensures left { result ≡ false → ops.new ≡ ops.old }
 {
     match op {
-        Op::Simple(_) => left == 0 && ops.push_near(op, op_len(op)),
+        Op::Simple(_) => left == 0 && ops.push_fast(op, op_len(op)),
         _ => false,
     }
 }
@@ -291,11 +291,11 @@ impl BodyBuilder {
     /// Takes a borrowed instruction if it contains no list, no label of a br_table is due, and no memory is
     /// needed. Otherwise returns false and changes nothing.
     #[inline(always)]
-    pub fn push_near(&mut self, op: &Op) -> bool
+    pub fn push_fast(&mut self, op: &Op) -> bool
         ensures taken { result ≡ true → placed self.old op.now ≡ Some self.new }
         ensures left { result ≡ false → self.new ≡ self.old }
     {
-        push_near(&mut self.ops, self.left, op)
+        push_fast(&mut self.ops, self.left, op)
     }
 
     /// Returns the body. Fails with `Unbalanced` if a list is still open or a label is still due.

@@ -89,7 +89,7 @@ impl SizedOps {
 
     /// Appends a borrowed op if there is room. Otherwise returns false and changes nothing.
     #[inline(always)]
-    pub(crate) fn push_near(&mut self, op: &Op, len: u64) -> bool
+    pub(crate) fn push_fast(&mut self, op: &Op, len: u64) -> bool
         requires { len ≡ op_len op.now }
         ensures taken { result ≡ true → self.new ≡ self.old ++ op.now ∷ [] }
         ensures left { result ≡ false → self.new ≡ self.old }

@@ -2,7 +2,7 @@
 
 use super::scripts::play;
 use super::{judge, loader, pieces};
-use crate::words::{number_of, unknown, word_of};
+use crate::script_words::{number_of, unknown, word_of};
 use std::alloc::Global;
 use std::process::Abort;
 use wm_rules::Policy;

@@ -7,7 +7,7 @@ pub(crate) mod bytes;
 pub(crate) mod items;
 
 use super::{function_0, judge, loader, pieces, policy, validator};
-use crate::words::{parts_of, unknown, word_of};
+use crate::script_words::{parts_of, unknown, word_of};
 use std::alloc::Global;
 use std::process::Abort;
 use wm_rules::Policy;

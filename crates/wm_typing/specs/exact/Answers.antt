@@ -5,7 +5,7 @@ use Rattle.std.specs.Prelude.{Result, Ok, Err}
 use Rattle.wm_syntax.specs.declared.why.Why.{Why}
 use Rattle.wm_syntax.specs.declared.why.Why.TheVariants.{Align, Index, Memory}
 use Rattle.wm_syntax.specs.declared.types.ValType.{ValType}
-use Rattle.wm_stacks.specs.declared.entries.Frame.{Frame}
+use Rattle.wm_stacks.specs.declared.stack_entries.Frame.{Frame}
 use Rattle.wm_stacks.specs.Stack.{Stack, height_sum}
 use Rattle.wm_typing.specs.exact.Ops.{drive_close}
 use Rattle.wm_typing.specs.Typing.{Context}

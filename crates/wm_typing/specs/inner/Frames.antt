@@ -6,9 +6,9 @@ use Rattle.std.specs.Prelude.{reverse, length, option_to_list, ◌↔◌}
 use Rattle.wm_syntax.specs.declared.types.ValType.{ValType}
 use Rattle.wm_syntax.specs.declared.types.ValType.TheVariants.{I32}
 use Rattle.wm_syntax.specs.Instructions.{Instructions}
-use Rattle.wm_stacks.specs.declared.entries.Entry.{Entry}
-use Rattle.wm_stacks.specs.declared.entries.FrameKind.TheVariants.{Func, Block, Loop, If, Else}
-use Rattle.wm_stacks.specs.declared.entries.Frame.{Frame}
+use Rattle.wm_stacks.specs.declared.stack_entries.Entry.{Entry}
+use Rattle.wm_stacks.specs.declared.stack_entries.FrameKind.TheVariants.{Func, Block, Loop, If, Else}
+use Rattle.wm_stacks.specs.declared.stack_entries.Frame.{Frame}
 use Rattle.wm_stacks.specs.Stack.{Stack, fits}
 use Rattle.wm_typing.specs.declared.labels.BrTable.{BrTable}
 use Rattle.wm_typing.specs.Typing.{Context, Typed}

@@ -16,7 +16,7 @@ ghost use Rattle.wm_write.specs.exact.Aligns.{is_printable, is_simple_printable}
 use crate::batch::Batch;
 use crate::encode::spell::instruction_of;
 use crate::print::float_text::{push_f32, push_f64};
-use crate::print::words::{push_type_use, put_run, type_bytes};
+use crate::print::tokens::{push_type_use, put_run, type_bytes};
 use crate::put::put_bytes;
 use wm_syntax::instructions::accesses::{loaded, stored};
 use wm_syntax::instructions::op_names::name_of;

@@ -8,7 +8,7 @@ ghost use Rattle.wm_write.specs.exact.Printing.{item_front};
 ghost use Rattle.wm_write.specs.exact.Writing.{Sent};
 
 use crate::print::body_lines::{put_body, put_const, put_locals};
-use crate::print::words::{
+use crate::print::tokens::{
     put_counted, put_global_type, put_limits, put_string, put_table_type, put_type_use, put_types,
 };
 use crate::put::{Part, put_bytes, put_each};

@@ -7,7 +7,7 @@ ghost use Rattle.wm_write.specs.FloatText.{hexadecimal, places, scaled_text, sig
 ghost use Rattle.wm_write.specs.Layout.{spaced, words_text};
 
 use crate::batch::Batch;
-use crate::print::words::hex_digit;
+use crate::print::tokens::hex_digit;
 
 // The most hexadecimal digits of a fraction.
 const DIGITS: usize = 13;

@@ -3,9 +3,9 @@ use Rattle.std.proofs.lemmas.Result.{IfErr-weaker, IfOk-weaker}
 use Rattle.clap.specs.Words.{Text, app_of, fault_of, first_value, found_of}
 use Rattle.wm_command.proofs.LineLemmas.{refused, taken}
 use Rattle.wm_command.specs.Lines.{IsFaultOf, IsLimit, IsMost, IsProfile, IsSpellings, Says, SaysNone, wmod, word_of}
-use Rattle.wm_command.specs.declared.words.Line.{Line}
-use Rattle.wm_command.specs.declared.words.LineFault.{LineFault}
-use Rattle.wm_command.specs.declared.words.LineFault.TheVariants.{Memory, Words}
+use Rattle.wm_command.specs.declared.arguments.Line.{Line}
+use Rattle.wm_command.specs.declared.arguments.LineFault.{LineFault}
+use Rattle.wm_command.specs.declared.arguments.LineFault.TheVariants.{Memory, Words}
 use Rattle.wm_command.proofs.line.line.Goals as goal
 
 -- what the words say depends on each argument's word alone

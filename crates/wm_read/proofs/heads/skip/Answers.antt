@@ -21,8 +21,8 @@ loop-open-preserved-in-Some-String-default c =
     let token : lexed c.loop-open.rest.now ≡ string (bytes_of c.in-Some-String-default.field-0-0-0.now) ∷ lexed c.in-Some-String-default.more.now =
     c.in-Some-String-default.ensures.token ∙ ap (λ t. token_of t ∷ lexed c.in-Some-String-default.more.now) c.in-Some-String-default.field-0-0-is in
     record {
-      same = skip_string_on c.loop-open.«open» _ (lexed c.loop-open.rest.now) c.in-Some-String-default.more.now _ c.loop-open-test.true token c.after_stretches-rest.ensures.passes ∙ c.loop-open.invariant.same;
-      room = omega (arith, c.after_stretches-rest.ensures.within, c.in-Some-String-default.ensures.shorter, c.loop-open.invariant.room);
+      same = skip_string_on c.loop-open.«open» _ (lexed c.loop-open.rest.now) c.in-Some-String-default.more.now _ c.loop-open-test.true token c.after_spans-rest.ensures.passes ∙ c.loop-open.invariant.same;
+      room = omega (arith, c.after_spans-rest.ensures.within, c.in-Some-String-default.ensures.shorter, c.loop-open.invariant.room);
     }
 
 pub loop-open-preserved : goal.loop-open-preserved
@@ -30,6 +30,6 @@ loop-open-preserved c =
     let token : lexed c.loop-open.rest.now ≡ atom c.in-Some-Atom-default.field-0-0-0.now ∷ lexed c.in-Some-Atom-default.more.now =
     c.in-Some-Atom-default.ensures.token ∙ ap (λ t. token_of t ∷ lexed c.in-Some-Atom-default.more.now) c.in-Some-Atom-default.field-0-0-is in
     record {
-      same = skip_atom_on c.loop-open.«open» _ (lexed c.loop-open.rest.now) c.in-Some-Atom-default.more.now _ c.loop-open-test.true token c.after_stretches-rest-in-Some-Atom-default.ensures.passes ∙ c.loop-open.invariant.same;
-      room = omega (arith, c.after_stretches-rest-in-Some-Atom-default.ensures.within, c.in-Some-Atom-default.ensures.shorter, c.loop-open.invariant.room);
+      same = skip_atom_on c.loop-open.«open» _ (lexed c.loop-open.rest.now) c.in-Some-Atom-default.more.now _ c.loop-open-test.true token c.after_spans-rest-in-Some-Atom-default.ensures.passes ∙ c.loop-open.invariant.same;
+      room = omega (arith, c.after_spans-rest-in-Some-Atom-default.ensures.within, c.in-Some-Atom-default.ensures.shorter, c.loop-open.invariant.room);
     }

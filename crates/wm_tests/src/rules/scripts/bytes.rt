@@ -6,7 +6,7 @@
 
 ghost use Rattle.std.specs.Prelude.{◌<◌};
 
-use crate::words::{number_of, parts_of, word_of};
+use crate::script_words::{number_of, parts_of, word_of};
 use std::alloc::Global;
 use std::process::Abort;
 

@@ -1,6 +1,6 @@
 //! Items as words: `param i32`, `export func 0`, `op local.get 1`.
 
-use crate::words::{number_of, parts_of, unknown, word_of};
+use crate::script_words::{number_of, parts_of, unknown, word_of};
 use std::alloc::Global;
 use std::fmt::Write;
 use std::process::Abort;

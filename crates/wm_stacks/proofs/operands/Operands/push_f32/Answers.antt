@@ -1,6 +1,6 @@
 -- The bit at its index is cleared, and those below it stay.
 use Rattle.std.proofs.Common.{false, length, arith}
-use Rattle.wm_stacks.specs.declared.entries.Entry.TheVariants.{F32}
+use Rattle.wm_stacks.specs.declared.stack_entries.Entry.TheVariants.{F32}
 use Rattle.wm_stacks.specs.declared.words.Kind.TheVariants.{Float}
 use Rattle.wm_stacks.proofs.KindsAndWidths.{height_same, written_under, written_there, push_ok, push_err, near, between}
 use Rattle.wm_stacks.proofs.operands.Operands.push_f32.Goals as goal

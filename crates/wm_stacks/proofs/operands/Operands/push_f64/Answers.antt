@@ -1,6 +1,6 @@
 -- The bit at its index is set, and those below it stay.
 use Rattle.std.proofs.Common.{true, length, arith}
-use Rattle.wm_stacks.specs.declared.entries.Entry.TheVariants.{F64}
+use Rattle.wm_stacks.specs.declared.stack_entries.Entry.TheVariants.{F64}
 use Rattle.wm_stacks.specs.declared.words.Kind.TheVariants.{Float}
 use Rattle.wm_stacks.proofs.KindsAndWidths.{height_same, written_under, written_there, widths_only, push_ok, push_err, near}
 use Rattle.wm_stacks.proofs.operands.Operands.push_f64.Goals as goal

@@ -3,7 +3,7 @@ use Rattle.std.proofs.lemmas.List.{drop-drop}
 use Rattle.wm_machine.specs.exact.Live.{decoder_after}
 use Rattle.wm_machine.specs.declared.machine.Machine.TheVariants as machine
 use Rattle.wm_machine.specs.declared.machine.member.InMember.TheVariants as at
-use Rattle.wm_machine.proofs.Stretches.{names}
+use Rattle.wm_machine.proofs.ByteRuns.{names}
 use Rattle.wm_decode.proofs.decoder.state.Decoder.name_part.Goals as goal
 
 pub returns-clause-moved : goal.returns-clause-moved
@@ -12,7 +12,7 @@ returns-clause-moved g c = λ part.
     let q = c.in-Section in
     let w = c.in-Name in
     let bytes : List ℕ = drop c.args.i c.args.piece.now in
-    let used = c.at_most-used.result in
+    let used = c.min_len-used.result in
     let fits : s.at + length bytes ≤ s.max_bytes = omega (arith, length-drop c.args.i c.args.piece.now) in
     let end : s.at + c.from.result ≡ s.at + used = omega arith in
     let inside : used ≤ length bytes = omega (arith, length-drop c.args.i c.args.piece.now) in

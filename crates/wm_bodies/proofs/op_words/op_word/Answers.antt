@@ -1,7 +1,0 @@
-use Rattle.std.proofs.Common.{sym, ◌∙◌, arith}
-use Rattle.wm_bodies.proofs.OpWords.{word_named}
-use Rattle.wm_bodies.proofs.Readers.{same_is}
-use Rattle.wm_bodies.proofs.op_words.op_word.Goals as goal
-
-pub returns-then-is : goal.returns-then-is
-returns-then-is c = c.op_of.ensures.exact ∙ word_named c.args.profile c.args.word.now _ c.guess-byte.result (omega arith) c.name_of.ensures.exact (same_is _ _ (sym c.is.ensures ∙ c.if-is.true))
