@@ -6,7 +6,6 @@ mod inputs;
 mod lines;
 pub(crate) mod rows;
 mod texts;
-mod uses;
 
 use ends::{BROKEN, INTERRUPTED, Mode, Reader, Writer};
 use inputs::INPUTS;

@@ -10,4 +10,6 @@ mod rules;
 #[cfg(test)]
 mod script_words;
 #[cfg(test)]
+mod uses;
+#[cfg(test)]
 mod write;

@@ -1,11 +1,10 @@
-//! The samples of README.md and docs/LIBRARY.md, as callers write them. `.ci/readme.py` holds the pages
-//! against these files.
+//! The samples of README.md and docs/LIBRARY.md, as a host writes them. `.ci/readme.py` compares the pages
+//! with these files.
 
 mod admit;
 mod assemble;
 mod rewrite;
 
-use super::ends::{Mode, Reader};
 use admit::admit;
 use assemble::assemble;
 use rewrite::rewrite;
@@ -26,10 +25,7 @@ fn admits(alloc: Global) -> bool {
 
 /// Whether the module's one function is written again.
 fn rewrites(alloc: Global) -> bool {
-    matches!(
-        rewrite(alloc, Reader::new(&ADD, Mode::by(7)), Vec::new(alloc)),
-        Ok(Some(1))
-    )
+    matches!(rewrite(alloc, &ADD[..], Vec::new(alloc)), Ok(Some(1)))
 }
 
 /// Whether a valid text is taken, and one that is not valid is none.

@@ -1,0 +1,19 @@
+-- The definitions that the contracts of these calls cite, for clauses of callers.
+pub use Rattle.wm_machine.specs.Sections
+pub use Rattle.wm_read.specs.Spellings
+pub use Rattle.wm_rules.specs.Bounds
+pub use Rattle.wm_rules.specs.Kept
+pub use Rattle.wm_rules.specs.Loading
+pub use Rattle.wm_rules.specs.Meanings
+pub use Rattle.wm_rules.specs.Policies
+pub use Rattle.wm_rules.specs.Reading
+pub use Rattle.wm_rules.specs.Validating
+pub use Rattle.wm_rules.specs.Validation
+pub use Rattle.wm_syntax.specs.Modules
+pub use Rattle.wm_syntax.specs.Profiles
+pub use Rattle.wm_syntax.specs.Values
+pub use Rattle.wm_tokens.specs.TokenFaults
+pub use Rattle.wm_tokens.specs.Tokens
+pub use Rattle.wm_tokens.specs.Written
+pub use Rattle.wm_write.specs.Canon
+pub use Rattle.wm_write.specs.Layout
