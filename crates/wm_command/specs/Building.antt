@@ -1,4 +1,4 @@
--- What `build` may write for a text, and how it may end.
+-- The output that `build` may write for a text, and the status that belongs to it.
 use Rattle.std.specs.Prelude.{◌≡◌, ◌≢◌, ◌≤◌, ◌<◌, ◌^◌, ◌+◌, ◌⊎◌, ℕ, List, Err, length}
 use Rattle.wm_syntax.specs.declared.profile.Profile.{Profile}
 use Rattle.wm_syntax.specs.declared.why.Why.{Why}
@@ -20,9 +20,11 @@ use Rattle.wm_command.specs.declared.status.Status.{Status}
 use Rattle.wm_command.specs.declared.status.Status.TheVariants.{Done, Refused}
 use Rattle.wm_command.specs.Refused.{module_line, refusal_line, text_line, too_large_line}
 
--- Of a module that a text writes: its canonical binary, where it is valid and within the policy;
--- where it is not, the refusal of that binary, of which what its name says is so. A module of which a
--- section would be too large has none, and is refused for that.
+-- The output and the status for the module m that a text writes, in three cases:
+-- 1. m is valid, within the policy, and each section fits its size field: its canonical binary, and `Done`.
+-- 2. m fits, but is not valid or not within the policy: the refusal of its canonical binary other than `Memory`,
+--    with its meaning, and `Refused`.
+-- 3. A section of m does not fit its size field, so m has no canonical binary: `too_large_line`, and `Refused`.
 abbrev pub ModuleOut : Profile → Policy → Module → List ℕ → Status → Type 0
 ModuleOut p q m written status =
     (Valid m × Within q m × Fits m × (written ≡ canon m) × (status ≡ Done))
@@ -31,8 +33,8 @@ ModuleOut p q m written status =
     × Meaning p (2 ^ 62) q (canon m) r × (written ≡ module_line r.at r.why)) × (status ≡ Refused))
     ⊎ ((Fits m → ⊥) × (written ≡ too_large_line) × (status ≡ Refused))
 
--- Of a text: what becomes of the module that it writes, or a refusal at a place within
--- it where it writes none, which says of its bytes, its tokens and its end what TellsText says.
+-- The output and the status for a text. A text that writes a module gives the output for that module. A text
+-- that writes none gives a refusal other than `Memory`, at an offset within the text, for which `TellsText` holds.
 abbrev pub TextOut : Profile → Policy → Spellings → List ℕ → List ℕ → Status → Type 0
 TextOut p q s text written status =
     ((m : Module) × IsTextOf p s m text × ModuleOut p q m written status)
@@ -41,13 +43,14 @@ TextOut p q s text written status =
     × TellsText p text why place × (written ≡ text_line place why))
     × (status ≡ Refused))
 
--- of an input, which is a text where it is no longer than the limit
+-- The output and the status for an input: that for its text if the input is at most `limit` bytes long, and the
+-- refusal `TooLong` at offset `limit + 1` otherwise.
 abbrev pub BuildOut : Profile → ℕ → Policy → Spellings → List ℕ → List ℕ → Status → Type 0
 BuildOut p limit q s input written status =
     ((length input ≤ limit) × TextOut p q s input written status)
     ⊎ ((limit < length input) × (written ≡ refusal_line (limit + 1) TooLong) × (status ≡ Refused))
 
--- a refusal of a text or of its module
+-- The line of some refusal of a text, or of the module that it writes, other than `Memory`.
 abbrev pub IsBuildRefusal : List ℕ → Type 0
 IsBuildRefusal written =
     ((place : ℕ) × (why : TextWhy) × (why ≢ fault.Memory) × (written ≡ text_line place why))

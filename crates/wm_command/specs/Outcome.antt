@@ -1,4 +1,4 @@
--- What the program may write for an input, and how it may end.
+-- The output that the program may write for an input, and the status that belongs to it.
 use Rattle.std.specs.Prelude.{◌≡◌, ◌≢◌, ◌≤◌, ◌⊎◌, ℕ, List, [], ◌∷◌, ◌++◌, Option, Ok, Err, codes, decimal}
 use Rattle.std.specs.Prelude.{length}
 use Rattle.wm_syntax.specs.declared.profile.Profile.{Profile}
@@ -24,15 +24,15 @@ use Rattle.wm_rules.specs.Meanings.{Meaning}
 use Rattle.wm_command.specs.Refused.{refusal_line}
 use Rattle.wm_command.specs.Building.{BuildOut, IsBuildRefusal}
 
--- the line of a valid input
+-- The line for a valid input.
 abbrev pub valid_line : List ℕ
 valid_line = codes "valid" ++ 10 ∷ []
 
--- the line of a figure: its name, a space and the number
+-- The line of a figure: its name, a space and the number in decimal digits.
 abbrev pub figure_line : List ℕ → ℕ → List ℕ
 figure_line name n = name ++ (codes " " ++ (decimal n ++ 10 ∷ []))
 
--- the five lines of a summary
+-- The five lines of a summary.
 abbrev pub stats_text : Summary → List ℕ
 stats_text s =
     figure_line (codes "functions") s.functions
@@ -41,8 +41,9 @@ stats_text s =
     ++ (figure_line (codes "controls") s.controls
     ++ figure_line (codes "probes") s.probes)))
 
--- The bytes of a module are judged: where they are accepted, a report; else one refusal, other than for
--- memory, at a place within them, which they alone determine. What its name says of them is so.
+-- The output and the status for a binary input. An accepted input gives a report, and `Done`. Any other gives its
+-- refusal, and `Refused`. The refusal is other than `Memory`, its offset is within the input, and its meaning
+-- holds. The input alone determines it (`verdict`).
 abbrev pub Judged : (List ℕ → Type 0) → Profile → ℕ → Policy → List ℕ → List ℕ → Status → Type 0
 Judged Report p limit q input written status =
     (Accepted p limit q input × Report written × (status ≡ Done))
@@ -51,10 +52,10 @@ Judged Report p limit q input written status =
     × Meaning p limit q input r × (written ≡ refusal_line r.at r.why))
     × (status ≡ Refused))
 
--- What an action writes of an input: `valid`; the figures of its summary, which the bytes alone determine;
--- the canonical binary of the module that it spells (section 5.5.15); or the printed text of that module
--- (chapter 6). What `build` writes of a text is the canonical binary of the module that it writes; the
--- spellings are those of a text.
+-- The output and the status of an action for an input. For an accepted input, `check` reports `valid`, and `stats`
+-- reports the figures of its summary, which the input alone determines. `canon` reports the canonical binary of
+-- the module that the input spells (Core spec 5.5.15), and `show` its printed text (Core spec 6). Only `build`
+-- reads a text, and only it uses the spellings.
 abbrev pub OutOf : Action → Profile → ℕ → Policy → Spellings → List ℕ → List ℕ → Status → Type 0
 OutOf Check p limit q s input = Judged (λ written. written ≡ valid_line) p limit q input
 OutOf Stats p limit q s input =
@@ -66,8 +67,8 @@ OutOf Show p limit q s input =
     Judged (λ written. (m : Module) × Loads p limit q input m × (written ≡ layout m)) p limit q input
 OutOf Build p limit q s input = BuildOut p limit q s input
 
--- What was written and answered is right for the input, where all of it was read; else it is right for every
--- input that begins with what was read.
+-- The output and the status are right for the input. Either the input was read to its end; or they are right for
+-- every input that begins with a certain prefix of this one.
 abbrev pub IsRightFor : Action → Profile → ℕ → Policy → Spellings → List ℕ → Option (List ℕ) → List ℕ → Status
     → Type 0
 IsRightFor action p limit q s input left written status =
@@ -75,7 +76,7 @@ IsRightFor action p limit q s input left written status =
     ⊎ ((read rest : List ℕ) × (input ≡ read ++ rest)
     × ((more : List ℕ) → OutOf action p limit q s (read ++ more) written status))
 
--- a text that an action may report
+-- A text that the action may write for some accepted input.
 abbrev pub IsReport : Action → List ℕ → Type 0
 IsReport Check written = written ≡ valid_line
 IsReport Stats written = (s : Summary) × (written ≡ stats_text s)
@@ -83,13 +84,13 @@ IsReport Canon written = (m : Module) × (written ≡ canon m)
 IsReport Show written = (m : Module) × (written ≡ layout m)
 IsReport Build written = (m : Module) × (written ≡ canon m)
 
--- the line of a refusal, which for `build` may be one of a text or of the module that it writes
+-- The line of a refusal other than `Memory`. For `build` it may be that of a text or of the module that it writes.
 abbrev pub IsRefusalLine : Action → List ℕ → Type 0
 IsRefusalLine Build written =
     ((place : ℕ) × (why : Why) × (why ≢ Memory) × (written ≡ refusal_line place why)) ⊎ IsBuildRefusal written
 IsRefusalLine _ written = (place : ℕ) × (why : Why) × (why ≢ Memory) × (written ≡ refusal_line place why)
 
--- one of the texts that an action writes, and the status that goes with it
+-- A text that the action may write, and the status that belongs to it.
 abbrev pub IsOutput : Action → List ℕ → Status → Type 0
 IsOutput action written status = (IsReport action written × (status ≡ Done))
     ⊎ (IsRefusalLine action written × (status ≡ Refused))

@@ -1,4 +1,4 @@
-//! What the words of the command line may say.
+//! The command line as a value: the action, the options and the file.
 
 ghost use Rattle.std.specs.Prelude.{◌≤◌, ◌^◌};
 
@@ -10,34 +10,34 @@ use wm_read::spellings::Spellings;
 use wm_rules::Policy;
 use wm_syntax::profile::Profile;
 
-/// What to do with the input.
+/// The action on the input.
 #[derive(Clone, Copy, PartialEq, Eq, Debug)]
 pub enum Action {
-    /// Say whether it is a valid module.
+    /// Writes whether the input is a valid module.
     Check,
-    /// Write the figures of its bodies, where it is valid.
+    /// Writes figures of the function bodies if the input is a valid module.
     Stats,
-    /// Write its canonical binary, where it is valid.
+    /// Writes the canonical binary if the input is a valid module.
     Canon,
-    /// Write its text, where it is valid.
+    /// Writes the module as text if the input is a valid module.
     Show,
-    /// Read it as text, and write the canonical binary of the module, where that is valid.
+    /// Reads the input as text, and writes the canonical binary of its module if that is valid.
     Build,
 }
 
-/// The words, read.
+/// The parsed command line.
 #[derive(Debug, Drop)]
 pub struct Line {
     pub action: Action,
-    /// The instructions and the types that a module may use.
+    /// The instructions and value types that the module may use.
     pub profile: Profile,
     /// The most bytes that the input may have, at most 2^62.
     pub limit: u64,
-    /// How much the module may have.
+    /// The limits on functions, locals and open blocks of the module.
     pub policy: Policy,
-    /// The words that a text may have; older ones for `build` alone.
+    /// The keywords that a text may use. Only `build` may have older ones.
     pub spellings: Spellings,
-    /// The file to read; standard input where there is none, or where it is `-`.
+    /// The file to read. `None` and `-` are standard input.
     pub file: Option<String>,
     ghost in_range: { limit ≤ 2 ^ 62 },
 }
@@ -47,7 +47,7 @@ impl Line {
     ghost use Rattle.std.specs.String.{string_bytes};
     ghost use Rattle.wm_command.specs.Lines.{path_of};
 
-    /// The path of the file to read; none where that is standard input.
+    /// Returns the path of the file to read, or `None` for standard input.
     pub fn path(&self) -> Option<&str>
         ensures { option_map (λ s. s.now) result ≡ path_of (option_map string_bytes self.now.file) }
     {
@@ -59,13 +59,13 @@ impl Line {
     }
 }
 
-/// Why the words can't be followed.
+/// Why the arguments describe no line.
 #[derive(Debug, Drop)]
 pub enum LineFault {
-    /// The parser's own fault, which has its text; a request for help is one.
+    /// The fault of `clap`, with its text. A request for help or for the version is one too.
     Parser(clap::Error),
-    /// No such action or profile, a number that is none or out of its range, or older words for an action
-    /// that reads no text.
+    /// An unknown action or profile, a number that is malformed or out of range, or `--old-words` with an
+    /// action other than `build`.
     Words,
     /// Memory was refused.
     Memory,
@@ -75,7 +75,7 @@ impl LineFault {
     ghost use Rattle.std.specs.Prelude.{◌≡◌};
     ghost use Rattle.wm_command.specs.Codes.{fault_code};
 
-    /// The exit status.
+    /// Returns the exit status: 0 for help or version, 4 if memory was refused, and 2 otherwise.
     pub fn code(&self) -> u8
         ensures { result ≡ fault_code self.now }
     {

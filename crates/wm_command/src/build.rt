@@ -1,4 +1,4 @@
-//! What `build` does: it reads a text, and writes the canonical binary of the module that the text writes.
+//! The action `build`: reads a text, and writes the canonical binary of its module.
 
 ghost use Rattle.std.specs.Prelude.{◌≡◌, ◌≢◌, ◌<◌, ◌≤◌, ◌+◌, ◌^◌, ◌↔◌, ◌||◌, ◌++◌, ℕ, List, Err, IfOk};
 ghost use Rattle.std.specs.Prelude.{IfSome, false, length, true};
@@ -32,10 +32,10 @@ use wm_write::check_module::{CheckFault, checked_bytes};
 
 const PIECE: usize = 4096;
 
-/// Why an input was not read whole.
+/// Why `read_all` did not return the whole input.
 #[derive(Clone, Copy, PartialEq, Eq, Debug)]
 enum InputFault {
-    /// It is longer than the limit.
+    /// The input is longer than the limit.
     TooLong,
     /// The reader failed.
     Io,
@@ -43,7 +43,8 @@ enum InputFault {
     Memory,
 }
 
-/// All bytes of an input that is no longer than the limit.
+/// Reads all bytes of an input. Fails with `TooLong` if there are more than `limit` bytes, with `Io` if the
+/// reader fails, and with `Memory` if memory is refused.
 fn read_all<R: Source>(alloc: Global, r: &mut R, limit: u64) -> Result<Vec<u8>, InputFault>
     requires open { R.has_failed r.old ≡ false }
     requires limit { limit ≤ 2 ^ 62 }
@@ -56,7 +57,7 @@ fn read_all<R: Source>(alloc: Global, r: &mut R, limit: u64) -> Result<Vec<u8>, 
 {
     let mut all = Vec::new(alloc);
     let mut piece = [0u8; PIECE];
-    // each turn but the last takes at least one byte
+    // each iteration but the last reads at least one byte
     for _ in 0..limit + 1 {
         let n = match r.get(&mut piece) {
             Ok(0) => return Ok(all),
@@ -70,12 +71,13 @@ fn read_all<R: Source>(alloc: Global, r: &mut R, limit: u64) -> Result<Vec<u8>, 
             return Err(InputFault::TooLong);
         }
     }
-    // not reached: so many turns take more than the limit
+    // not reached: `limit + 1` iterations read more than `limit` bytes
     Err(InputFault::TooLong)
 }
 
-/// Reads a text of at most `limit` bytes, and writes the canonical binary of its module,
-/// or why there is none.
+/// Reads a text of at most `limit` bytes, and writes the canonical binary of its module, or the refusal.
+/// Returns `Io` if the reader or the writer failed, and `Memory` if memory was refused. Writes nothing if memory
+/// was refused or the reader failed.
 pub fn build<R: Source, W: Dest>(
     alloc: Global,
     profile: Profile,
@@ -118,7 +120,7 @@ pub fn build<R: Source, W: Dest>(
     }
 }
 
-/// Writes what becomes of a text.
+/// Writes the canonical binary of a text's module, or the refusal of the text or of its module.
 fn convert<W: Dest>(
     alloc: Global,
     profile: Profile,
@@ -141,7 +143,7 @@ fn convert<W: Dest>(
     }
 }
 
-/// Writes what becomes of a module of the profile.
+/// Writes the canonical binary of a module of the profile, or its refusal.
 fn convert_module<W: Dest>(
     alloc: Global,
     profile: Profile,
@@ -166,7 +168,7 @@ fn convert_module<W: Dest>(
     }
 }
 
-/// Writes the refusal of a text, unless memory was refused.
+/// Writes the refusal of a text. Returns `Memory`, with nothing written, if memory was refused, now or before.
 fn refuse_text<W: Dest>(alloc: Global, refusal: TextRefusal, w: &mut W) -> Status
     requires { W.has_failed w.old ≡ false }
     ensures answered { result ≢ Status.Memory → (refusal.why ≢ text.Memory)
@@ -185,7 +187,7 @@ fn refuse_text<W: Dest>(alloc: Global, refusal: TextRefusal, w: &mut W) -> Statu
     }
 }
 
-/// Writes the refusal of a module that a text writes.
+/// Writes the refusal of a text's module. Returns `Memory`, with nothing written, if memory is refused.
 fn refuse_module<W: Dest>(alloc: Global, refusal: Refusal, w: &mut W) -> Status
     requires { W.has_failed w.old ≡ false }
     ensures answered { result ≢ Status.Memory

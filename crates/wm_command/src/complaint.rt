@@ -1,4 +1,4 @@
-//! What is said on standard error, where standard output can't say it.
+//! Messages on standard error.
 
 ghost use Rattle.std.specs.Prelude.{◌≡◌, IfOk, IfErr};
 ghost use Rattle.wm_command.specs.Codes.{fault_code};
@@ -11,26 +11,27 @@ use clap::error::ErrorKind;
 use std::fmt::Display;
 use std::io;
 
-/// Says what went wrong. No clause: what standard error gets no contract can say.
+/// Writes `what` as a line on standard error. It has no contract: none of std states what standard error gets.
 pub fn complain<R: Eprint, D: Display>(rt: &R, what: &D) {
-    // where standard error fails too there is no one left to tell
+    // if standard error fails, there is nowhere left to report it
     let _ = eprintln!(rt; "wmod: {what}");
 }
 
-/// Says what went wrong, and then with which file, and why. No clause, for the same reason.
+/// Writes `what`, and then the file and the cause, as two lines on standard error. It has no contract, as
+/// `complain`.
 pub fn complain_of<R: Eprint, D: Display>(rt: &R, what: &D, file: &str, cause: io::Error) {
     complain(rt, what);
     let _ = eprintln!(rt; "wmod: {file}: {cause}");
 }
 
-/// Says why these words are no line. What the parser has to say, help too, it says itself; where
-/// standard output does not take that, the program ends as for any output that fails.
+/// Reports why these arguments describe no line. `clap` prints its own faults, and help and version. Returns
+/// `Ok(Io)` if standard output fails for these, and the fault otherwise.
 pub fn explain_fault<R: Print + Eprint + AllocGlobal>(
     rt: &R,
     words: &[String],
     fault: LineFault,
 ) -> Result<Status, LineFault>
-    // Only help or the version that standard output does not take is a fault of output.
+    // `Ok` comes only for help or the version, whose exit status is else 0.
     ensures ok { IfOk result (λ status. (status ≡ Status.Io) × (fault_code fault ≡ 0)) }
     ensures err { IfErr result (λ e. e ≡ fault) }
 {

@@ -1,4 +1,4 @@
-//! Doing what a line says, with the file that it names.
+//! Opens the file that a line names, and runs the line's action on it.
 
 ghost use Rattle.std.specs.Prelude.{◌≡◌, ◌≢◌, ℕ, List, Option, Some, None, IfOk, IfSome, option_map};
 ghost use Rattle.std.specs.String.{string_bytes};
@@ -21,16 +21,16 @@ use wm_syntax::io::output::Output as OutputOf;
 pub trait Opens {
     type Opened: Read + Drop;
 
-    // The bytes of the file at a path, where the type tells them.
+    // The bytes of the file at a path, or `None` if nothing is claimed of them.
     ghost held_at: { Self → List ℕ → Option (List ℕ) };
 
-    /// Opens the file at this path, to be read from its front.
+    /// Opens the file at this path, to be read from its first byte.
     fn open(&self, path: &str) -> io::Result<Self::Opened>
         ensures { IfOk result (λ file. IfSome (held_at self.now path.now)
             (λ bytes. Self.Opened.remaining file ≡ Some bytes)) };
 }
 
-/// The files of the system. No contract of std says what they hold.
+/// The files of the system. No contract of std states their contents.
 #[derive(Drop)]
 pub struct System<'a, R>(pub &'a R);
 
@@ -44,13 +44,14 @@ impl<R: Files> Opens for System<'_, R> {
     }
 }
 
-/// Opens what the line names and does what it says. No contract of std says what standard input gives.
+/// Opens the input that the line names, and runs its action. Returns `Io` if the file cannot be opened. No
+/// contract of std states what standard input gives.
 pub fn execute<R: Input + Print + Eprint + AllocGlobal, O: Opens>(
     rt: &R,
     files: &O,
     line: &Line,
 ) -> Status
-    // The status is right for the file that the line names, as `follow` says.
+    // The status is right for the bytes of the file that the line names.
     ensures { result ≢ Status.Io → result ≢ Status.Memory
         → IfSome (path_of (option_map string_bytes line.now.file)) (λ path. IfSome (O.held_at files.now path)
         (λ input. (left : Option (List ℕ)) × (text : List ℕ)
@@ -69,22 +70,22 @@ pub fn execute<R: Input + Print + Eprint + AllocGlobal, O: Opens>(
     }
 }
 
-/// Does what the line says with what this reader gives, and writes to standard output. `name` is
-/// what a complaint calls the reader.
+/// Runs the action of the line on this reader, and writes to standard output. A message on standard error calls
+/// the reader `name`.
 fn follow<R: Print + Eprint + AllocGlobal, I: Read + Drop>(
     rt: &R,
     line: &Line,
     name: &str,
     reader: I,
 ) -> Status
-    // The status is right for what the reader gives, by the action, the profile, the limit, the policy and
-    // the spellings of this line. No contract of std says what standard output got.
+    // The status is right for the bytes that the reader gives, by the action, the profile, the limit, the policy
+    // and the spellings of this line. No contract of std states what standard output got.
     ensures { result ≢ Status.Io → result ≢ Status.Memory → IfSome (I.remaining reader)
         (λ input. (left : Option (List ℕ)) × (text : List ℕ)
         × IsRightFor line.now.action line.now.profile line.now.limit line.now.policy line.now.spellings input
         left text result) }
 {
-    // a module is written instruction by instruction, and reaches the system in pieces of some kilobytes
+    // a module is written instruction by instruction: the buffer hands it to the system some kilobytes at a time
     let Ok(writer) = BufWriter::new(rt.alloc(), io::writer(rt)) else {
         complain(rt, &Status::Memory);
         return Status::Memory;
@@ -98,7 +99,7 @@ fn follow<R: Print + Eprint + AllocGlobal, I: Read + Drop>(
         Status::Io => match (source.into_inner().error(), dest.into_inner().error()) {
             (Some(error), _) => complain_of(rt, &status, name, error),
             (None, Some(error)) => complain_of(rt, &status, "standard output", error),
-            // a write that took nothing
+            // a write that accepted no byte is a failure without an error
             (None, None) => complain(rt, &status),
         },
     }

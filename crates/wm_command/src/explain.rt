@@ -1,4 +1,4 @@
-//! `wmod explain NAME`: what the NAME of a refusal means.
+//! The action `explain`: `wmod explain NAME` writes what the NAME of a refusal means.
 
 ghost use Rattle.std.specs.Prelude.{◌≡◌, ◌≢◌, ◌<◌, ◌⊎◌, ℕ, List, Err, IfErr, IfOk, false, length, map};
 ghost use Rattle.std.specs.String.{string_bytes};
@@ -18,7 +18,7 @@ use std::{fmt, io};
 use wm_syntax::io::Dest;
 use wm_syntax::io::output::Output as OutputOf;
 
-/// A line of the table of refusals.
+/// A line of the tables of refusals.
 #[derive(Clone, Copy)]
 struct Refusal<'a> {
     name: &'a str,
@@ -60,12 +60,12 @@ impl fmt::Display for Refusal<'_> {
     }
 }
 
-/// Words of the command line that ask for no explanation that there is.
+/// Why `explain` has nothing to explain.
 #[derive(Drop)]
 enum Wrong<'a> {
-    /// There is not just one NAME.
+    /// There is not exactly one NAME.
     Count,
-    /// No refusal has this NAME; these are nearest to it.
+    /// No refusal has this NAME. The second text has the nearest ones.
     Name(&'a str, &'a str),
 }
 
@@ -80,7 +80,7 @@ impl fmt::Display for Wrong<'_> {
     }
 }
 
-/// Whether these words, of which the first is the program's name, ask for an explanation.
+/// Whether these arguments, the first of which is the program's name, ask for an explanation.
 pub fn is_asked(words: &[String]) -> bool
     ensures { result ≡ asks_to_explain (map string_bytes words.now) }
 {
@@ -90,8 +90,9 @@ pub fn is_asked(words: &[String]) -> bool
     }
 }
 
-/// Writes what a NAME means to standard output. Standard error says where there is not one NAME, or where no
-/// refusal has it. No contract of std says what standard output got: `explain_to` says what any writer got.
+/// Writes what a NAME means to standard output. Fails with `Words` if there is not exactly one NAME or no refusal
+/// has it, and with `Memory` if memory is refused. Returns `Ok(Io)` if standard output fails. Each failure is
+/// reported on standard error. No contract of std states what standard output got: see `explain_to`.
 pub fn explain<R: Print + Eprint + AllocGlobal>(
     rt: &R,
     words: &[String],
@@ -108,21 +109,22 @@ pub fn explain<R: Print + Eprint + AllocGlobal>(
     if let Ok(Status::Io) = ended {
         match dest.into_inner().error() {
             Some(error) => complain_of(rt, &Status::Io, "standard output", error),
-            // a write that took nothing
+            // a write that accepted no byte is a failure without an error
             None => complain(rt, &Status::Io),
         }
     }
     ended
 }
 
-/// Writes what a NAME means. Standard error says where no refusal has it.
+/// Writes what a NAME means. Fails with `Words` if no refusal has it, and with `Memory` if memory is refused. Both
+/// are reported on standard error, and leave the writer unchanged.
 fn explain_to<R: Eprint + AllocGlobal, W: Dest>(
     rt: &R,
     name: &str,
     w: &mut W,
 ) -> Result<Status, LineFault>
     requires { W.has_failed w.old ≡ false }
-    // Some text is written whole, or, where the writer failed, a beginning of it.
+    // Some text is written whole, or a prefix of it if the writer failed.
     ensures written { IfOk result (λ status. (text : List ℕ) × (0 < length text)
         × IsAnswered text Status.Done (W.contents w.old) (W.contents w.new) (W.has_failed w.new)
         (W.is_flushed w.new) status) }
@@ -155,7 +157,7 @@ fn out_of_memory<R: Eprint>(rt: &R) -> Result<Status, LineFault>
     Err(LineFault::Memory)
 }
 
-/// What the lines with this NAME say: of a module, of a text, of both or of none.
+/// Returns the explanations of this NAME, as a refusal of a module and of a text. Empty if no refusal has it.
 fn explained(alloc: Global, name: &str) -> Result<String, AllocError> {
     let mut text = String::new(alloc);
     for line in OF_MODULES.lines().chain(OF_TEXTS.lines()) {
@@ -170,7 +172,7 @@ fn explained(alloc: Global, name: &str) -> Result<String, AllocError> {
     Ok(text)
 }
 
-/// The NAMEs that share the longest front with this word, in either case, each after a space.
+/// Returns the NAMEs that share the longest prefix with this word, each after a space. ASCII case is ignored.
 fn nearest(alloc: Global, word: &str) -> Result<String, AllocError> {
     let mut names = String::new(alloc);
     let mut longest = 0;
@@ -191,7 +193,7 @@ fn nearest(alloc: Global, word: &str) -> Result<String, AllocError> {
     Ok(names)
 }
 
-/// How many bytes two words have in common at their front, in either case.
+/// The length in bytes of the common prefix of two words. ASCII case is ignored.
 fn shared_front(one: &str, other: &str) -> usize {
     one.bytes()
         .zip(other.bytes())

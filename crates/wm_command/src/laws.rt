@@ -1,4 +1,4 @@
-//! A law that joins what is printed to what is read, as the contract of a function that does nothing.
+//! A theorem about printing and reading back, stated as the contract of a function that does nothing.
 
 ghost use Rattle.std.specs.Prelude.{◌≡◌, ℕ, List};
 ghost use Rattle.wm_rules.specs.Loading.{Loads};
@@ -9,7 +9,7 @@ ghost use Rattle.wm_tokens.specs.Fields.{Writes};
 ghost use Rattle.wm_tokens.specs.Tokens.{Token, Tokens};
 ghost use Rattle.wm_write.specs.Layout.{layout};
 
-/// The printed text of a loaded module writes no other module. That it writes that one is a law of `wm_write`.
+/// The printed text of a loaded module writes no other module. `wm_write` proves that it writes this one.
 pub fn printed_texts_write_no_other()
     ensures { (p : Profile) (limit : ℕ) (q : Policy) (b : List ℕ) (m n : Module) (k : List Token)
         → Loads p limit q b m

@@ -1,5 +1,5 @@
-//! The command `wmod`: its words, and what each action does. `wm_cli` has the program, and the tests: for these
-//! `run` and `witness` are public.
+//! The command `wmod`: its arguments, and what each action does. The program and the tests are in `wm_cli`.
+//! `run` and `witness` are public for the tests only.
 #![tactic(auto)]
 
 mod answer;

@@ -1,4 +1,4 @@
-//! The words of the command line.
+//! Parses the command line, and finds the first argument whose value is wrong.
 
 ghost use Rattle.std.specs.Prelude.{ℕ, ◌≡◌, ◌≢◌, ◌<◌, ◌≤◌, ◌^◌, ◌⊎◌, [], Option, Some, false, codes, map};
 ghost use Rattle.std.specs.Prelude.{option_map, IfOk, IfErr, IfSome, SomeIff, MatchOption};
@@ -27,12 +27,12 @@ const DEFAULT_LIMIT: u64 = 4294967295;
 
 const MOST_LIMIT: u64 = 4611686018427387904;
 
-/// A limit in decimal digits, at most 2^62.
+/// Parses the value of `--limit`. Returns `None` if it is not all decimal digits, or is above 2^62.
 fn limit_of(text: &str) -> Option<u64>
     ensures { SomeIff result (IsNumeral 10 text.now × (digits_value 10 text.now ≤ 2 ^ 62))
         (digits_value 10 text.now) }
 {
-    // `parse` takes a sign
+    // `parse` accepts a sign
     if text.starts_with('+') {
         return None;
     }
@@ -42,19 +42,19 @@ fn limit_of(text: &str) -> Option<u64>
     }
 }
 
-/// A limit of a policy in decimal digits, below 2^32.
+/// Parses a limit of the policy. Returns `None` if it is not all decimal digits, or is not below 2^32.
 fn most_of(text: &str) -> Option<u32>
     ensures { SomeIff result (IsNumeral 10 text.now × (digits_value 10 text.now < 2 ^ 32))
         (digits_value 10 text.now) }
 {
-    // `parse` takes a sign
+    // `parse` accepts a sign
     if text.starts_with('+') {
         return None;
     }
     text.parse::<u32>().ok()
 }
 
-/// The action of this name.
+/// Returns the action with this name, or `None` if there is none. `explain` is no `Action`.
 fn action_of(text: &str) -> Option<Action>
     ensures { MatchOption result ((a : Action) → text.now ≢ action_name a) (λ a. text.now ≡ action_name a) }
 {
@@ -68,7 +68,7 @@ fn action_of(text: &str) -> Option<Action>
     }
 }
 
-/// The profile of this name.
+/// Returns the profile with this number, `1` to `4`, or `None` for any other text.
 fn profile_of(text: &str) -> Option<Profile>
     ensures { MatchOption result ((p : Profile) → text.now ≢ profile_name p)
         (λ p. text.now ≡ profile_name p) }
@@ -109,7 +109,7 @@ const ANSWERS: &str =
     wmod build --old-words older.wat > module.wasm\n  \
     wmod explain Index";
 
-// what help says of each option
+// the help text of each option
 const PROFILE: &str =
     "1, 2, 3 or 4: floats under 3 and 4, sign extension under 2 and 4 [default: 1]";
 
@@ -135,7 +135,7 @@ fn action_arg<'a>(alloc: Global) -> Arg<'a>
         .help("check, stats, canon, show, build or explain")
 }
 
-/// An option with one value, a number.
+/// Returns an option that takes one value, shown as `N` in the help.
 fn option_arg<'a>(alloc: Global, name: &'a str, help: &'a str) -> Arg<'a>
     ensures rule { rule_of result ≡ option_rule name.entry.now }
     ensures local { result.global ≡ false }
@@ -166,7 +166,7 @@ fn file_arg<'a>(alloc: Global) -> Arg<'a>
     )
 }
 
-/// The command before it has arguments: its name, its version and its texts.
+/// Returns the command without arguments: its name, its version and its help texts.
 fn bare_command<'a>(alloc: Global) -> Command<'a>
     ensures { app_of result ≡ versioned (codes "wmod") }
 {
@@ -176,7 +176,7 @@ fn bare_command<'a>(alloc: Global) -> Command<'a>
         .after_help(ANSWERS)
 }
 
-/// The command as `clap` knows it.
+/// Returns the command for `clap`. Fails with `AllocError` if memory is refused.
 fn command<'a>(alloc: Global) -> Result<Command<'a>, AllocError>
     ensures { IfOk result (λ c. app_of c ≡ wmod) }
 {
@@ -191,7 +191,8 @@ fn command<'a>(alloc: Global) -> Result<Command<'a>, AllocError>
         .arg(file_arg(alloc))
 }
 
-/// The profile that this word names; without one, the first.
+/// Returns the profile that the value of `--profile` names: `One` if the option is absent, and `None` if no
+/// profile has this name.
 fn profile_by(word: Option<&str>) -> Option<Profile>
     ensures { let said = option_map (λ s. s.now) word.entry in
         MatchOption result ((p : Profile) → IsProfile said p
@@ -203,7 +204,7 @@ fn profile_by(word: Option<&str>) -> Option<Profile>
     }
 }
 
-/// The limit that this word says; without one, 2^32 - 1.
+/// Returns the limit of the input in bytes: 2^32 - 1 if `--limit` is absent, and `None` if its value is wrong.
 fn limit_by(word: Option<&str>) -> Option<u64>
     ensures { let said = option_map (λ s. s.now) word.entry in MatchOption result ((n : ℕ) → IsLimit said n
         → ⊥) (IsLimit said) }
@@ -214,7 +215,8 @@ fn limit_by(word: Option<&str>) -> Option<u64>
     }
 }
 
-/// The limit of a policy that this word says; without one, none.
+/// Returns a limit of the policy: `Some(None)`, no limit, if the option is absent, and `None` if its value is
+/// wrong.
 fn most_by(word: Option<&str>) -> Option<Option<u32>>
     ensures { let said = option_map (λ s. s.now) word.entry in
         MatchOption result ((most : Option ℕ) → IsMost said most
@@ -226,7 +228,7 @@ fn most_by(word: Option<&str>) -> Option<Option<u32>>
     }
 }
 
-/// The policy of the options.
+/// Returns the policy of the three `--max-` options, or `None` if one of their values is wrong.
 fn policy_in(matches: &ArgMatches<'_>) -> Option<Policy>
     ensures { let word = first_value (found_of matches.now) in
         MatchOption result ((q : Policy) → IsPolicy word q
@@ -239,7 +241,8 @@ fn policy_in(matches: &ArgMatches<'_>) -> Option<Policy>
     })
 }
 
-/// The spellings by this word of the flag, which only `build` takes.
+/// Returns `Older` if `--old-words` is present, and `Standard` if it is absent. Returns `None` if the flag is
+/// present and the action is not `build`.
 fn spellings_by(flag: Option<&str>, action: Action) -> Option<Spellings>
     ensures { let said = option_map (λ s. s.now) flag.entry in
         MatchOption result ((s : Spellings) → IsSpellings said action s
@@ -252,7 +255,8 @@ fn spellings_by(flag: Option<&str>, action: Action) -> Option<Spellings>
     }
 }
 
-/// What the words of the arguments say.
+/// Returns the line that the arguments describe. Fails with `Words` if there is none, and with `Memory` if
+/// memory is refused.
 fn read(alloc: Global, matches: &ArgMatches<'_>) -> Result<Line, LineFault>
     ensures ok { IfOk result (Says (first_value (found_of matches.now))) }
     ensures fault { IfErr result (λ e. ((e ≡ Words) × SaysNone (first_value (found_of matches.now)))
@@ -287,13 +291,14 @@ fn read(alloc: Global, matches: &ArgMatches<'_>) -> Result<Line, LineFault>
     })
 }
 
-/// Reads the words, of which the first is the program's name.
+/// Parses the arguments, the first of which is the program's name. Fails with `Parser` if `clap` refuses them,
+/// with `Words` if a value is wrong, and with `Memory` if memory is refused.
 pub fn line<S: AsStr>(alloc: Global, words: &[S]) -> Result<Line, LineFault>
-    // The parser takes the words, and they say this line.
+    // `clap` accepts the arguments, and they describe this line.
     ensures ok { IfOk result (λ l. (fault_of wmod (map S.text words.now) ≡ [])
         × Says (word_of (map S.text words.now)) l) }
-    // The parser has a fault of this kind for them, or takes them and they say no line;
-    // or memory was refused.
+    // Either `clap` has a fault of this kind, or it accepts the arguments and they describe no line, or memory
+    // was refused.
     ensures fault { IfErr result (IsFaultOf (map S.text words.now)) }
 {
     match command(alloc)?.try_get_matches_from(words) {
@@ -302,7 +307,7 @@ pub fn line<S: AsStr>(alloc: Global, words: &[S]) -> Result<Line, LineFault>
     }
 }
 
-/// A word that says nothing its argument may be.
+/// An argument whose value is wrong, with that value.
 #[derive(Clone, Copy, PartialEq, Eq, Debug)]
 pub enum WrongWord<'a> {
     Action(&'a str),
@@ -311,11 +316,11 @@ pub enum WrongWord<'a> {
     MaxFunctions(&'a str),
     MaxLocals(&'a str),
     MaxOpen(&'a str),
-    /// The action beside which older words are asked for.
+    /// The value of ACTION where `--old-words` is present and the action is not `build`.
     OldWords(&'a str),
 }
 
-/// Says that this is no number for the option.
+/// Writes that `word` is no value for the policy option `option`.
 fn no_number<W: fmt::Write>(f: &mut fmt::Formatter<W>, word: &str, option: &str) -> fmt::Result {
     write!(
         f,
@@ -349,7 +354,7 @@ impl fmt::Display for WrongWord<'_> {
     }
 }
 
-/// The word of ACTION, where it names no action.
+/// Returns the value of ACTION if it names no action.
 fn no_action<'a>(matches: &ArgMatches<'a>) -> Option<&'a str>
     ensures { let word = first_value (found_of matches.now) (codes "ACTION") in
         MatchOption result (IfSome word (λ text. (a : Action) × (text ≡ action_name a)))
@@ -362,7 +367,7 @@ fn no_action<'a>(matches: &ArgMatches<'a>) -> Option<&'a str>
     }
 }
 
-/// The word of `--profile`, where it names no profile.
+/// Returns the value of `--profile` if it names no profile.
 fn no_profile<'a>(matches: &ArgMatches<'a>) -> Option<&'a str>
     ensures { let word = first_value (found_of matches.now) (codes "profile") in
         MatchOption result ((p : Profile) × IsProfile word p)
@@ -375,7 +380,7 @@ fn no_profile<'a>(matches: &ArgMatches<'a>) -> Option<&'a str>
     }
 }
 
-/// The word of `--limit`, where it is no limit.
+/// Returns the value of `--limit` if it is no limit.
 fn no_limit<'a>(matches: &ArgMatches<'a>) -> Option<&'a str>
     ensures { let word = first_value (found_of matches.now) (codes "limit") in
         MatchOption result ((n : ℕ) × IsLimit word n)
@@ -390,7 +395,7 @@ fn no_limit<'a>(matches: &ArgMatches<'a>) -> Option<&'a str>
     }
 }
 
-/// The word of this option, where it is no limit of a policy.
+/// Returns the value of this option if it is no limit of a policy.
 fn no_most<'a>(matches: &ArgMatches<'a>, option: &str) -> Option<&'a str>
     ensures { let word = first_value (found_of matches.now) option.now in
         MatchOption result ((most : Option ℕ) × IsMost word most)
@@ -403,7 +408,7 @@ fn no_most<'a>(matches: &ArgMatches<'a>, option: &str) -> Option<&'a str>
     }
 }
 
-/// The action beside which `--old-words` stands, where that is not `build`.
+/// Returns the value of ACTION if `--old-words` is present and the action is not `build`.
 fn no_build<'a>(matches: &ArgMatches<'a>) -> Option<&'a str>
     ensures { let word = first_value (found_of matches.now) in
         MatchOption result
@@ -422,7 +427,7 @@ fn no_build<'a>(matches: &ArgMatches<'a>) -> Option<&'a str>
     }
 }
 
-/// The first wrong word of a policy, in the order of its options.
+/// Returns the first wrong value of `--max-functions`, `--max-locals` and `--max-open`, in this order.
 fn wrong_in_policy<'a>(matches: &ArgMatches<'a>) -> Option<WrongWord<'a>>
     ensures { let word = first_value (found_of matches.now) in
         MatchOption result ((q : Policy) × IsPolicy word q) (IsWrong word) }
@@ -439,8 +444,8 @@ fn wrong_in_policy<'a>(matches: &ArgMatches<'a>) -> Option<WrongWord<'a>>
     None
 }
 
-/// The first word that is wrong, in the order ACTION, `--profile`, `--limit`, `--max-functions`,
-/// `--max-locals`, `--max-open`, `--old-words`; none where no word is.
+/// Returns the first wrong value, in the order ACTION, `--profile`, `--limit`, `--max-functions`,
+/// `--max-locals`, `--max-open`, `--old-words`. Returns `None` if no value is wrong.
 fn wrong_in<'a>(matches: &ArgMatches<'a>) -> Option<WrongWord<'a>>
     ensures { let word = first_value (found_of matches.now) in
         MatchOption result (NoneIsWrong word) (IsWrong word) }
@@ -463,7 +468,9 @@ fn wrong_in<'a>(matches: &ArgMatches<'a>) -> Option<WrongWord<'a>>
     None
 }
 
-/// The first of these words that is wrong; none where no word is, or where the parser has a fault for them.
+/// Returns the first wrong value among these arguments, the first of which is the program's name. Returns
+/// `None` if no value is wrong, or if `clap` refuses the arguments. Fails with `AllocError` if memory is
+/// refused.
 pub fn wrong_word<'a, S: AsStr>(
     alloc: Global,
     words: &'a [S],

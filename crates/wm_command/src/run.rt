@@ -1,4 +1,4 @@
-//! What each action does.
+//! Runs an action on an input and writes the answer.
 
 ghost use Rattle.std.specs.Prelude.{◌≡◌, ◌≢◌, ◌≤◌, ◌^◌, ◌↔◌, ◌||◌, ◌⊎◌, ℕ, List, IfSome, false, true};
 ghost use Rattle.wm_syntax.specs.Values.{value_of};
@@ -24,8 +24,9 @@ use wm_syntax::why::Why;
 use wm_write::encode::{WriteFault, encode};
 use wm_write::print::{PrintFault, print};
 
-/// Reads the input to its end, or to where it is refused, does what the action says, and writes the answer, a
-/// refusal too. Where memory was refused or the reader failed nothing is written.
+/// Reads the input up to its end or its refusal, performs the action, and writes the answer or the refusal.
+/// Returns `Io` if the reader or the writer failed, and `Memory` if memory was refused. Writes nothing if memory
+/// was refused or the reader failed. `limit` is in bytes, at most 2^62.
 pub fn run<R: Source, W: Dest>(
     alloc: Global,
     action: Action,
@@ -39,7 +40,7 @@ pub fn run<R: Source, W: Dest>(
     requires source { R.has_failed r.old ≡ false }
     requires dest { W.has_failed w.old ≡ false }
     requires limit { limit ≤ 2 ^ 62 }
-    // What is to be written for the input is written whole, or, where the writer failed, a beginning of it.
+    // The whole text that is right for the input is written, or a prefix of it if the writer failed.
     ensures answered { R.has_failed r.new ≡ false → result ≢ Status.Memory → (text : List ℕ)
         × (status : Status)
         × IsOutput action text status
@@ -72,11 +73,11 @@ pub fn run<R: Source, W: Dest>(
     }
 }
 
-/// Does what the line says with this input, and writes the answer.
+/// Runs the action of the line on this input, as `run` does.
 pub fn run_line<R: Source, W: Dest>(alloc: Global, line: &Line, r: &mut R, w: &mut W) -> Status
     requires source { R.has_failed r.old ≡ false }
     requires dest { W.has_failed w.old ≡ false }
-    // What is to be written for the input is written whole, or, where the writer failed, a beginning of it.
+    // The whole text that is right for the input is written, or a prefix of it if the writer failed.
     ensures answered { R.has_failed r.new ≡ false → result ≢ Status.Memory → (text : List ℕ)
         × (status : Status)
         × IsOutput line.now.action text status
@@ -102,7 +103,7 @@ pub fn run_line<R: Source, W: Dest>(alloc: Global, line: &Line, r: &mut R, w: &m
     )
 }
 
-/// Writes the five figures, unless memory was refused.
+/// Writes the five figures of a summary. Returns `Memory`, with nothing written, if memory is refused.
 fn report<W: Dest>(alloc: Global, summary: Summary, w: &mut W) -> Status
     requires { W.has_failed w.old ≡ false }
     ensures answered { result ≢ Status.Memory
@@ -137,7 +138,7 @@ fn write_canonical<W: Dest>(checked: &Checked, w: &mut W) -> Status
 {
     match encode(checked.module(), w) {
         Ok(_) => answer(w, b"", Status::Done),
-        // no module that was loaded is too large
+        // not reached: each section of a loaded module fits
         Err(WriteFault::TooLarge) => Status::Io,
         Err(WriteFault::Io { written: _ }) => Status::Io,
     }
@@ -156,7 +157,8 @@ fn write_text<W: Dest>(checked: &Checked, w: &mut W) -> Status
     }
 }
 
-/// Writes the refusal of an input, unless memory was refused. Where the reader failed nothing is written.
+/// Writes the refusal of an input. Returns `Memory` if memory was refused, and `Io` if the reader failed; both
+/// write nothing. Also returns `Io` if the writer failed.
 fn answer_fault<W: Dest>(alloc: Global, fault: FromFault, w: &mut W) -> Status
     requires { W.has_failed w.old ≡ false }
     ensures answered { fault ≢ FromFault.Io → result ≢ Status.Memory → (refusal : Refusal)
@@ -174,7 +176,7 @@ fn answer_fault<W: Dest>(alloc: Global, fault: FromFault, w: &mut W) -> Status
     }
 }
 
-/// Writes a refusal, unless memory was refused.
+/// Writes a refusal. Returns `Memory`, with nothing written, if memory was refused, now or before.
 pub(crate) fn refuse<W: Dest>(alloc: Global, refusal: Refusal, w: &mut W) -> Status
     requires { W.has_failed w.old ≡ false }
     ensures answered { result ≢ Status.Memory → (refusal.why ≢ Why.Memory)

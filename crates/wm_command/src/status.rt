@@ -1,4 +1,4 @@
-//! How a run ends.
+//! How a run ends, and its exit status.
 
 use crate::arguments::LineFault;
 use std::fmt;
@@ -6,7 +6,7 @@ use std::fmt;
 /// How a run ended.
 #[derive(Clone, Copy, PartialEq, Eq, Debug)]
 pub enum Status {
-    /// What was asked for was written.
+    /// The answer was written.
     Done,
     /// The input was refused, and the refusal was written.
     Refused,
@@ -20,7 +20,7 @@ impl Status {
     ghost use Rattle.std.specs.Prelude.{◌≡◌};
     ghost use Rattle.wm_command.specs.Codes.{exit_status};
 
-    /// The exit status of the program.
+    /// Returns the exit status of the program: 0 done, 1 refused, 3 input or output failed, 4 out of memory.
     pub fn code(self) -> u8
         ensures { result ≡ exit_status self }
     {
@@ -47,7 +47,7 @@ impl fmt::Display for Status {
 ghost use Rattle.std.specs.Prelude.{◌≡◌};
 ghost use Rattle.wm_command.specs.Codes.{end_code};
 
-/// The exit status of the program, however it ended.
+/// Returns the exit status of the program for a run, or for arguments that describe no line.
 pub fn exit_code(end: &Result<Status, LineFault>) -> u8
     ensures { result ≡ end_code end.now }
 {

@@ -1,11 +1,11 @@
-//! Readers and writers whose errors are kept, to be told of later.
+//! Readers and writers that keep their last error, to be reported later.
 
 ghost use Rattle.std.specs.Prelude.{◌≡◌};
 
 use std::io;
 use std::io::{Read, Write};
 
-/// A reader or a writer, and the last error that it answered.
+/// A reader or a writer, and the last error that it returned.
 #[derive(Drop)]
 pub struct Witness<T> {
     inner: T,
@@ -13,16 +13,15 @@ pub struct Witness<T> {
 }
 
 impl<T> Witness<T> {
-    /// A reader or a writer that has answered no error. Which error is kept is for a complaint alone, and
-    /// tests show it.
+    /// Wraps a reader or a writer, with no error kept yet.
     pub fn new(inner: T) -> Self
         ensures { result.inner ≡ inner }
     {
         Witness { inner, error: None }
     }
 
-    /// The last error. No clause: which error a reader or a writer answers no contract of
-    /// std says. Tests show it.
+    /// Returns the last error. It has no contract: none of std states which error a reader or a writer returns.
+    /// Only tests cover it.
     pub fn error(&self) -> Option<io::Error> {
         self.error
     }
