@@ -1,20 +1,20 @@
-/* wmod: is this a valid WebAssembly 1.0 module? And its canonical binary, and its text.
+/* wmod: checks WebAssembly 1.0 modules, and converts them to their canonical binary and to text.
  *
- * Link with -lwmod. The library takes memory from the program's malloc, realloc and free and uses nothing else of
- * it but memcpy, memmove and memset: no file, no clock, no environment, no printing, no lock, no thread, no global
- * data. It never ends the program and never unwinds. C89 and C++ read this file alike.
+ * Link with -lwmod. The library calls only malloc, realloc, free, memcpy, memmove and memset of the program. It uses no
+ * file, no clock, no environment, no printing, no lock, no thread and no global data. It never ends the program and
+ * never unwinds. C89 and C++ read this file alike.
  *
  * Rules of every call
- *   Pointers      No pointer is NULL, but one that comes with length 0 may be. What a call writes, an answer, an output
- *                 or a buffer, belongs to the caller, who may leave it uninitialised.
- *   Overlap       What a call writes, a handle too, shares no byte with anything else that it is handed. What it only
- *                 reads, bytes and options, may overlap.
- *   Heap          malloc, realloc and free are those of one allocator. A block of malloc and of realloc is aligned to
- *                 each power of two up to 16 that divides its size: one of 24 bytes to 8.
- *   Threads       There is no shared state. Calls run side by side if they share nothing that one of them writes.
- *   Signals       A call allocates: make none in a signal handler, nor in the child of a fork of a threaded program.
- *   Memory        Nothing is kept after a call that takes no handle. Where memory is refused the status is
- *                 WMOD_MEMORY, and everything that was taken is given back.
+ *   Pointers      No pointer is NULL, except that one passed with length 0 may be. The caller owns what a call writes:
+ *                 an answer, an output or a buffer. It may be uninitialised.
+ *   Overlap       What a call writes, a handle too, overlaps no other argument. Bytes and options, which a call only
+ *                 reads, may overlap.
+ *   Heap          malloc, realloc and free belong to one allocator. A block from malloc or realloc is aligned to each
+ *                 power of two up to 16 that divides its size: a block of 24 bytes to 8.
+ *   Threads       There is no shared state. Calls may run at once if they share nothing that one of them writes.
+ *   Signals       Calls allocate. Make none in a signal handler, or in the child of a fork of a threaded program.
+ *   Memory        A call without a handle keeps nothing after it returns. If memory is refused, the status is
+ *                 WMOD_MEMORY, and all that the call allocated is freed.
  *   Stack         A call needs less than 64 KiB of stack, however deeply the module is nested.
  */
 #ifndef WMOD_H
@@ -27,31 +27,31 @@
 extern "C" {
 #endif
 
-/* The interface that this file describes. wmod_version() is that of the library. The first is raised by a change
- * that breaks callers, the second by an addition. */
+/* The version of the interface in this file; wmod_version() returns that of the library. A change that breaks callers
+ * raises the major number, an addition the minor one. */
 #define WMOD_VERSION_MAJOR 1
 #define WMOD_VERSION_MINOR 1
 #define WMOD_VERSION (WMOD_VERSION_MAJOR * 65536u + WMOD_VERSION_MINOR)
 
-/* How a call ended: the statuses of the command `wmod` mean the same. */
-#define WMOD_VALID 0u    /* valid; of a feed: go on */
-#define WMOD_REFUSED 1u  /* the input is not valid, or too long */
-#define WMOD_MISUSE 2u   /* an argument is out of range, or the handle has ended or is empty; nothing was read */
+/* How a call ended. The exit statuses 0, 1, 2 and 4 of the command `wmod` mean the same. */
+#define WMOD_VALID 0u    /* valid or written; from wmod_feed: nothing is refused so far */
+#define WMOD_REFUSED 1u  /* the input is refused: not valid, or outside the profile or the limits */
+#define WMOD_MISUSE 2u   /* an argument is out of range, or the handle is empty or finished; nothing was read */
 #define WMOD_MEMORY 4u   /* memory was refused: nothing is known of the input */
-#define WMOD_NO_ROOM 5u  /* of a conversion alone: the output is longer than the buffer; nothing was written */
+#define WMOD_NO_ROOM 5u  /* from conversions only: the output is longer than the buffer; nothing was written */
 
-/* Which instructions a module may use. */
-#define WMOD_PROFILE_1 1u /* those of WebAssembly 1.0 on whole numbers */
-#define WMOD_PROFILE_2 2u /* the same and the five sign-extension instructions */
-#define WMOD_PROFILE_3 3u /* all of WebAssembly 1.0, floats too */
-#define WMOD_PROFILE_4 4u /* the same and the five sign-extension instructions */
+/* The instructions and value types that a module may use. */
+#define WMOD_PROFILE_1 1u /* WebAssembly 1.0 without f32, f64 and the instructions on them */
+#define WMOD_PROFILE_2 2u /* profile 1 and the five sign-extension instructions */
+#define WMOD_PROFILE_3 3u /* all of WebAssembly 1.0 */
+#define WMOD_PROFILE_4 4u /* profile 3 and the five sign-extension instructions */
 
-/* Limits, in bytes. What is longer is refused: as WMOD_WHY_TOO_LONG, unless its first bytes are refused for another
- * reason. A text that is longer is refused as WMOD_WHY_TOO_LONG whatever it holds. */
+/* Limits of an input, in bytes. A longer binary is refused as WMOD_WHY_TOO_LONG, unless its first bytes are refused for
+ * another reason. A longer text is always refused as WMOD_WHY_TOO_LONG. */
 #define WMOD_LIMIT_DEFAULT ((uint64_t)0xFFFFFFFFu)
 #define WMOD_LIMIT_MOST ((uint64_t)1 << 62)
 
-/* Why an input is refused; docs/REFUSALS.md has each with a small input that gives it. */
+/* Why an input is refused. docs/REFUSALS.md explains each reason, with a small input that gives it. */
 enum {
   WMOD_WHY_MAGIC = 1, /* Magic */
   WMOD_WHY_VERSION = 2, /* Version */
@@ -83,9 +83,9 @@ enum {
   WMOD_WHY_MANY_FUNCTIONS = 28, /* ManyFunctions: more than the options allow */
   WMOD_WHY_MANY_LOCALS = 29, /* ManyLocals */
   WMOD_WHY_DEEP = 30, /* Deep */
-  /* of wmod_build: the contents of a section of the module's binary have 2^32 bytes or more */
+  /* only from wmod_build: the contents of a section of the module's binary have 2^32 bytes or more */
   WMOD_WHY_TOO_LARGE = 100, /* TooLarge */
-  /* of wmod_build: the text writes no module */
+  /* only from wmod_build: the text writes no module of the profile, or memory was refused */
   WMOD_TEXT_NOT_UTF8 = 101, /* NotUtf8 */
   WMOD_TEXT_BAD_TOKEN = 102, /* BadToken */
   WMOD_TEXT_OPEN_COMMENT = 103, /* OpenComment */
@@ -109,28 +109,28 @@ enum {
   WMOD_TEXT_BAD_FLOAT = 121 /* BadFloat */
 };
 
-/* The answer to an input. Where the status is WMOD_VALID, `why` and `at` are 0. Else the figures are 0. */
+/* The answer to an input. If the status is WMOD_VALID, `why` and `at` are 0. Otherwise the figures are 0. */
 typedef struct wmod_answer {
   uint32_t status;    /* WMOD_VALID .. WMOD_MEMORY */
   uint32_t why;       /* WMOD_WHY_MAGIC .. WMOD_WHY_DEEP, or 0 */
-  uint64_t at;        /* how many bytes were read up to and including the one that settled it */
-  uint64_t functions; /* functions with a body */
-  uint64_t moves;     /* of each further figure the greatest over all bodies: pushes and pops of the two stacks .. */
-  uint64_t operands;  /* .. the height of the operand stack .. */
-  uint64_t controls;  /* .. the height of the control stack .. */
-  uint64_t probes;    /* .. and the probes of one search for a local */
+  uint64_t at;        /* the bytes read up to and including the one that decided */
+  uint64_t functions; /* the functions with a body */
+  uint64_t moves;     /* the most pushes and pops on the two stacks in one body */
+  uint64_t operands;  /* the greatest height of the operand stack in one body */
+  uint64_t controls;  /* the greatest height of the control stack in one body */
+  uint64_t probes;    /* the most probes of one search for a local */
 } wmod_answer;
 
-/* Judges an input that lies in memory as a whole. The result is the answer's status. The profile is 1 to 4, the
- * limit at most WMOD_LIMIT_MOST: else WMOD_MISUSE.
+/* Judges an input that is in memory as a whole. Returns the answer's status: WMOD_MISUSE if the profile is not 1 to 4,
+ * or the limit is above WMOD_LIMIT_MOST.
  *
- * Proved: WMOD_VALID is answered for valid modules of the profile within the limit alone, WMOD_REFUSED for none of
- * these; and with either of the two the bytes alone say which refusal, which place and which figures it is. What
- * docs/REFUSALS.md calls proved of the name of a refusal is so. WMOD_MISUSE comes exactly where the profile or the
- * limit is out of range. Tested, and not proved: WMOD_MEMORY is answered for want of memory alone. */
+ * Proved: WMOD_VALID comes only for valid modules of the profile within the limit, and WMOD_REFUSED for none of these.
+ * With either status, the bytes alone determine the refusal, the offset and the figures. The meaning of a refusal's
+ * name is proved as far as docs/REFUSALS.md says. WMOD_MISUSE comes if and only if the profile or the limit is out of
+ * range. Tested, and not proved: WMOD_MEMORY comes only if memory was refused. */
 uint32_t wmod_validate(const uint8_t *bytes, size_t length, uint32_t profile, uint64_t limit, wmod_answer *answer);
 
-/* What a host asks for. Begin with the defaults, so that a later field has its default too:
+/* The options of a call. Start from the defaults, so that a field added later has its default too:
  *
  *   wmod_options options = WMOD_OPTIONS;
  *   options.profile = WMOD_PROFILE_2;
@@ -140,53 +140,55 @@ typedef struct wmod_options {
   uint64_t size;      /* sizeof(wmod_options); another size is WMOD_MISUSE */
   uint64_t profile;   /* WMOD_PROFILE_1 to WMOD_PROFILE_4 */
   uint64_t max_bytes; /* at most WMOD_LIMIT_MOST */
-  uint64_t functions; /* at most so many functions, imported ones counted */
-  uint64_t locals;    /* at most so many declared locals a function; parameters are not counted */
-  uint64_t depth;     /* at most so many open blocks, loops and ifs in a function */
-  uint64_t old_words; /* of wmod_build: 1 where words of older tools are read too, such as get_local; else 0 */
+  uint64_t functions; /* the most functions, imported ones counted */
+  uint64_t locals;    /* the most declared locals of a function; parameters are not counted */
+  uint64_t depth;     /* the most open blocks, loops and ifs in a function */
+  uint64_t old_words; /* for wmod_build: 1 to read keywords of older tools too, such as get_local; else 0 */
 } wmod_options;
 
-/* Of functions, locals and depth: no limit. So is any number of 2^32 and more. */
+/* No limit, for functions, locals and depth. Any number from 2^32 up means the same. */
 #define WMOD_NO_LIMIT ((uint64_t)-1)
 #define WMOD_OPTIONS \
   { sizeof(wmod_options), WMOD_PROFILE_1, WMOD_LIMIT_DEFAULT, WMOD_NO_LIMIT, \
     WMOD_NO_LIMIT, WMOD_NO_LIMIT, 0 }
 
-/* The same as the options ask. Proved of it: the same, where a valid module is also one within the options' limits.
- * WMOD_MISUSE comes exactly where `size`, `profile`, `max_bytes` or `old_words` is out of range. */
+/* Judges an input as wmod_validate does, by options. The same is proved, but for valid modules within all limits of the
+ * options. WMOD_MISUSE comes if and only if `size`, `profile`, `max_bytes` or `old_words` is out of range. */
 uint32_t wmod_validate_with(const uint8_t *bytes, size_t length, const wmod_options *options, wmod_answer *answer);
 
-/* How a conversion ended. Unless the status is WMOD_REFUSED or WMOD_MEMORY, `why` and `at` are 0; of WMOD_MEMORY `at`
- * says nothing. */
+/* How a conversion ended. `why` and `at` are 0 unless the status is WMOD_REFUSED or WMOD_MEMORY. With WMOD_MEMORY, `at`
+ * has no meaning. */
 typedef struct wmod_output {
   uint32_t status; /* WMOD_VALID: written; WMOD_REFUSED, WMOD_MISUSE, WMOD_MEMORY or WMOD_NO_ROOM */
-  uint32_t why;    /* WMOD_WHY_.., of wmod_build also WMOD_TEXT_.. */
-  uint64_t at;     /* as in wmod_answer; of wmod_build see there */
-  uint64_t length; /* WMOD_VALID: so many bytes were written. WMOD_NO_ROOM: so many would have been. Else 0 */
+  uint32_t why;    /* WMOD_WHY_..; from wmod_build also WMOD_TEXT_.. */
+  uint64_t at;     /* as in wmod_answer; from wmod_build as below */
+  uint64_t length; /* WMOD_VALID: the bytes written. WMOD_NO_ROOM: the bytes that need room. Else 0 */
 } wmod_output;
 
 /* Conversions: each writes to the front of a buffer, which does not overlap the input, and leaves the rest of it
- * alone. The result is the output's status; with any but WMOD_VALID nothing is written to the buffer. A buffer of length
- * 0 tells the length. What is written is made in memory first, so such a call costs as much as a whole one.
+ * unchanged. It returns the output's status. With any but WMOD_VALID nothing is written to the buffer. A call with a
+ * buffer of length 0 gives the length. It costs as much as a whole call: the bytes are made in memory first.
  *
- * wmod_canon: the canonical binary of a valid module. No buffer need be longer than the input.
- * wmod_show: the text of a valid module. Thirty bytes may declare 2^32 - 1 locals: 17 GB of text. Bound the locals of
+ * wmod_canon: the canonical binary of a valid module. A buffer as long as the input is enough.
+ * wmod_show: the text of a valid module. Thirty bytes may declare 2^32 - 1 locals: 17 GB of text. Limit the locals of
  *   a stranger's module by the options.
- * wmod_build: the canonical binary of the valid module that a text writes. It is refused as WMOD_WHY_TOO_LONG where the
- *   text is longer than the limit, as a WMOD_TEXT_.. where the text writes no module of the profile, as
- *   WMOD_WHY_TOO_LARGE where a section of the module's binary would be too large, and else as the module is. `at` is a
- *   place of the text where `why` is a WMOD_TEXT_.. (so many bytes stand before the token that decided it) or
- *   WMOD_WHY_TOO_LONG, and else a place of the module's canonical binary; of WMOD_WHY_TOO_LARGE it is 0.
+ * wmod_build: the canonical binary of the valid module that a text writes. It is refused with this `why`:
+ *   WMOD_WHY_TOO_LONG   The text is longer than the limit. `at` is the limit plus 1.
+ *   WMOD_TEXT_..        The text writes no module of the profile. `at` counts the bytes before the token that decided.
+ *   WMOD_WHY_TOO_LARGE  A section of the module's binary would be too large. `at` is 0.
+ *   any other           The module is refused. `at` is an offset in its canonical binary.
  *
- * Proved: what is written is the canonical binary or the text of the module that the input spells or writes, which is
- * valid, of the profile and within the limits. A refusal of wmod_canon and wmod_show is the one that
- * wmod_validate_with gives, where memory is refused to neither. One of wmod_build comes only where the above says so;
- * one of the module is that of its canonical binary, whose length no option bounds. What docs/REFUSALS.md calls
- * proved of the name of a module's refusal is so. Of a text within the limit, where the options are in range and
- * memory was not refused, WMOD_TEXT_NOT_UTF8 comes exactly where the text is not UTF-8, and the next four exactly
- * where its tokens have a fault, each at its place. Of a text that writes no module, where none of these comes and
- * `at` is the text's length, it is WMOD_TEXT_EXPECTED. Which other WMOD_TEXT_.. it is, and at which place, is tested;
- * of WMOD_TEXT_TOO_MANY_LOCALS it is by reading. */
+ * Proved: the bytes written are the canonical binary or the text of the module that the input spells or writes. This
+ * module is valid, of the profile and within the limits. A refusal from wmod_canon or wmod_show is the one that
+ * wmod_validate_with gives, if memory is refused to neither. wmod_build refuses only for the reasons above. A refusal
+ * of the module is that of its canonical binary, whose length no option limits. The meaning of the name of a module's
+ * refusal is proved as far as docs/REFUSALS.md says.
+ *
+ * Proved for a text within the limit, if the options are in range and memory was not refused: WMOD_TEXT_NOT_UTF8 comes
+ * if and only if the text is not UTF-8. The next four come if and only if the text has a lexical error, each at its
+ * offset. If the text writes no module, none of these five comes and `at` is the text's length, `why` is
+ * WMOD_TEXT_EXPECTED. Tested: which other WMOD_TEXT_.. comes, and its `at`. WMOD_TEXT_TOO_MANY_LOCALS is known by
+ * reading the code only. */
 uint32_t wmod_canon(const uint8_t *bytes, size_t length, const wmod_options *options, uint8_t *out, size_t room,
                     wmod_output *output);
 uint32_t wmod_show(const uint8_t *bytes, size_t length, const wmod_options *options, uint8_t *out, size_t room,
@@ -194,16 +196,16 @@ uint32_t wmod_show(const uint8_t *bytes, size_t length, const wmod_options *opti
 uint32_t wmod_build(const uint8_t *text, size_t length, const wmod_options *options, uint8_t *out, size_t room,
                     wmod_output *output);
 
-/* Writes the name of a refusal, as `BadOpcode`, and a 0 after it, as much of it as there is room for; the last byte
- * written is 0 where capacity is not. The result is the length of the name, or 0 where the number is none of the above. */
+/* Writes the name of a refusal, such as `BadOpcode`, and a 0 after it, as far as there is room. The last byte written
+ * is 0 unless capacity is 0. Returns the length of the name, or 0 if the number is none of the above. */
 size_t wmod_why_name(uint32_t why, char *name, size_t capacity);
 
-/* WMOD_VERSION of the library. */
+/* Returns WMOD_VERSION of the library. */
 uint32_t wmod_version(void);
 
-/* An input that comes in pieces. A handle is a variable of the caller's that begins as WMOD_VALIDATOR_EMPTY (all
- * bytes 0). It must not be copied once it is begun: hand its address on. One thread at a time uses a handle, the
- * thread that began it.
+/* The handle of an input in pieces (chunks of any length). It is a variable of the caller, and starts as
+ * WMOD_VALIDATOR_EMPTY (all bytes 0). Do not copy it once it is begun: pass its address. Only the thread that began a
+ * handle uses it.
  *
  *   wmod_validator v = WMOD_VALIDATOR_EMPTY;
  *   wmod_answer answer;
@@ -213,31 +215,31 @@ uint32_t wmod_version(void);
  *   wmod_end(&v);
  *   if (n < 0) return 3;
  *
- * The last line is needed: where reading fails, the bytes before are no whole input, and what is answered to them is no
- * answer to it.
+ * The last line is needed: if reading fails, the bytes before are not the whole input, and the answer is not for it.
  */
 typedef struct wmod_validator {
   void *state;
 } wmod_validator;
 #define WMOD_VALIDATOR_EMPTY {0}
 
-/* Begins an input; a handle that is in use is begun anew. WMOD_VALID: it takes pieces. WMOD_MISUSE, exactly where the
- * profile or the limit is out of range: nothing changed. WMOD_MEMORY: the handle is empty. */
+/* Begins an input. A handle in use is begun anew. WMOD_VALID: the handle takes pieces. WMOD_MISUSE comes if and only if
+ * the profile or the limit is out of range: nothing changed. WMOD_MEMORY: the handle is empty. */
 uint32_t wmod_begin(wmod_validator *v, uint32_t profile, uint64_t limit);
 
-/* The same as the options ask; WMOD_MISUSE exactly where one of those four is out of range. */
+/* Begins an input as wmod_begin does, by options. WMOD_MISUSE comes if and only if `size`, `profile`, `max_bytes` or
+ * `old_words` is out of range. */
 uint32_t wmod_begin_with(wmod_validator *v, const wmod_options *options);
 
-/* Takes the next piece, of any length, 0 too. WMOD_VALID: nothing is refused so far, go on. WMOD_REFUSED and WMOD_MEMORY
- * stay: every later feed answers the same and reads nothing, and wmod_finish says why. WMOD_MISUSE: the handle is empty
- * or the input was finished, and nothing changed; a handle that was begun takes pieces till then. */
+/* Takes the next piece, of any length, 0 too. WMOD_VALID: nothing is refused so far. WMOD_REFUSED and WMOD_MEMORY stay:
+ * each later feed returns the same and reads nothing, and wmod_finish gives the reason. WMOD_MISUSE: the handle is
+ * empty or its input was finished, and nothing changed. A handle takes pieces from its begin until wmod_finish. */
 uint32_t wmod_feed(wmod_validator *v, const uint8_t *piece, size_t length);
 
-/* The end of the input. The answer is the one that wmod_validate gives of the pieces joined, where memory is refused to
- * neither. A second call gives it again. WMOD_MISUSE where the handle is empty. */
+/* Ends the input. The answer is the one that wmod_validate gives to the joined pieces, if memory is refused to neither.
+ * A second call gives it again. WMOD_MISUSE: the handle is empty. */
 uint32_t wmod_finish(wmod_validator *v, wmod_answer *answer);
 
-/* Gives back what the handle holds, at any moment, and leaves it empty. Of an empty handle it does nothing. */
+/* Frees what the handle holds, at any moment, and leaves it empty. Does nothing if the handle is empty. */
 void wmod_end(wmod_validator *v);
 
 #ifdef __cplusplus

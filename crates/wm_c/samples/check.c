@@ -1,5 +1,5 @@
-/* Judges standard input as it comes, in pieces of as many bytes as the first word says, and prints the line of `wmod check`.
- * Where reading fails there is no answer, since what came before is no whole input.
+/* Judges standard input in pieces, and prints the line of `wmod check`. The first argument is the length of a piece.
+ * If reading fails there is no answer, since the bytes before are not the whole input.
  *
  *   cc check.c -I crates/wm_c/include crates/wm_c/out/libwm_c.a $KIT/c/liblibc_c.a
  */

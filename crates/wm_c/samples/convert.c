@@ -1,5 +1,5 @@
-/* Converts standard input as the first word says, `canon`, `show` or `build`, and prints what the command of that
- * name does:
+/* Converts standard input as the first argument says, `canon`, `show` or `build`, and prints the output of this action
+ * of `wmod`:
  *
  *   cc convert.c -I crates/wm_c/include crates/wm_c/out/libwm_c.a $KIT/c/liblibc_c.a
  */
@@ -10,7 +10,7 @@
 
 typedef uint32_t (*conversion)(const uint8_t *, size_t, const wmod_options *, uint8_t *, size_t, wmod_output *);
 
-/* Standard input whole, or up to where reading fails; NULL where memory is refused. */
+/* Returns all of standard input, or the bytes before reading failed. NULL if memory is refused. */
 static uint8_t *whole(size_t *length) {
   uint8_t *bytes = NULL;
   size_t room = 0, n;
@@ -30,7 +30,7 @@ static uint8_t *whole(size_t *length) {
   return bytes;
 }
 
-/* A first call tells the length, a second one writes. NULL where there is nothing to write. */
+/* Returns the converted bytes: a first call gives the length, a second one writes. NULL if there are none to write. */
 static uint8_t *converted(conversion call, const uint8_t *bytes, size_t length, wmod_output *output) {
   wmod_options options = WMOD_OPTIONS;
   uint8_t *out;

@@ -1,5 +1,5 @@
-/* Two threads judge one module of at most a megabyte side by side, each with a handle of its own, in pieces of other lengths. It
- * prints `valid`, or `refused at N: NAME`, where both agree:
+/* Judges one module of at most a megabyte in two threads at once, each with its own handle and length of pieces. If
+ * both agree, prints `valid` or `refused at N: NAME`:
  *
  *   cc -pthread threads.c $(pkg-config --cflags --libs wmod) -o threads
  */

@@ -1,4 +1,4 @@
--- What C is answered.
+-- The answers that C gets to an input.
 use Rattle.std.specs.Prelude.{◌≡◌, ◌≢◌, ℕ, ◌≤◌, List, Result, Ok, Err, length}
 use Rattle.wm_syntax.specs.declared.why.Why.TheVariants.{Memory}
 use Rattle.wm_syntax.specs.declared.profile.Profile.{Profile}
@@ -12,7 +12,7 @@ use Rattle.wm_rules.specs.inner.Validators.{verdict}
 use Rattle.wm_c.specs.declared.answer.Answer.{Answer}
 use Rattle.wm_c.specs.Codes.{status_code, why_code}
 
--- the answer to which a validator comes, in numbers
+-- A validator's answer in numbers.
 abbrev pub in_numbers : Result Summary Refusal → Answer
 in_numbers (Ok s) = record {
   status = 0;
@@ -35,7 +35,7 @@ in_numbers (Err r) = record {
   probes = 0;
 }
 
--- an argument was out of range
+-- The answer for an argument that is out of range, or for an empty handle.
 abbrev pub misuse : Answer
 misuse = record {
   status = 2;
@@ -48,8 +48,9 @@ misuse = record {
   probes = 0;
 }
 
--- What a validator may answer to a whole input. Memory aside the bytes alone tell it, and what the name of a
--- refusal says of them is so.
+-- A right answer to a whole input. `Ok`: the input is accepted, and this is its summary. A refusal other than
+-- `Memory`: the input is not accepted, and the meaning of the refusal holds. Both are the `verdict`, which the input
+-- alone determines. The offset of any refusal is within the input.
 abbrev pub IsRight : Profile → ℕ → Policy → List ℕ → Result Summary Refusal → Type 0
 IsRight p limit q input (Ok s) =
     Accepted p limit q input × SummaryOf p limit q input s × (verdict p limit q input ≡ Ok s)
@@ -58,6 +59,6 @@ IsRight p limit q input (Err r) =
     × Meaning p limit q input r)
     × (r.at ≤ length input)
 
--- the answer, in numbers, is one that a validator may give
+-- The answer is a right answer to a whole input, in numbers.
 abbrev pub IsAnswerOf : Profile → ℕ → Policy → List ℕ → Answer → Type 0
 IsAnswerOf p limit q input a = (r : Result Summary Refusal) × (a ≡ in_numbers r) × IsRight p limit q input r

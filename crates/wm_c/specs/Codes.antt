@@ -1,4 +1,4 @@
--- The numbers that stand for words at the border to C.
+-- The numbers of refusals, statuses and profiles in the C interface.
 use Rattle.std.specs.Prelude.{ℕ}
 use Rattle.wm_syntax.specs.declared.why.Why.{Why}
 use Rattle.wm_syntax.specs.declared.why.Why.TheVariants.{Magic, Version, SectionId, SectionOrder, SectionEnd}
@@ -12,7 +12,7 @@ use Rattle.wm_tokens.specs.declared.faults.TextWhy.{TextWhy}
 use Rattle.wm_tokens.specs.declared.faults.TextWhy.TheVariants as text
 use Rattle.wm_syntax.specs.declared.profile.Profile.TheVariants as profile
 
--- of a refusal; 0 stands for none
+-- The number of a refusal of a module. 0 means no refusal.
 abbrev pub why_code : Why → ℕ
 why_code Magic = 1
 why_code Version = 2
@@ -45,7 +45,7 @@ why_code ManyFunctions = 28
 why_code ManyLocals = 29
 why_code Deep = 30
 
--- of how a call ended that is refused so: 1 for the input, 4 where memory was refused
+-- The status of a call that ends with this refusal of a module: 4 for `Memory`, and 1 for any other.
 abbrev pub status_code : Why → ℕ
 status_code Magic = 1
 status_code Version = 1
@@ -78,7 +78,7 @@ status_code ManyFunctions = 1
 status_code ManyLocals = 1
 status_code Deep = 1
 
--- of a text's refusal; 100 stands for a module of which a section is too large
+-- The number of a refusal of a text. 100 means a module with a section that is too large.
 abbrev pub text_code : TextWhy → ℕ
 text_code text.NotUtf8 = 101
 text_code text.BadToken = 102
@@ -102,6 +102,7 @@ text_code text.Float = 119
 text_code text.Memory = 120
 text_code text.BadFloat = 121
 
+-- The status of a call that ends with this refusal of a text: 4 for `Memory`, and 1 for any other.
 abbrev pub text_status_code : TextWhy → ℕ
 text_status_code text.NotUtf8 = 1
 text_status_code text.BadToken = 1
@@ -125,6 +126,7 @@ text_status_code text.Float = 1
 text_status_code text.Memory = 4
 text_status_code text.BadFloat = 1
 
+-- The number of a profile.
 abbrev pub profile_code : Profile → ℕ
 profile_code profile.One = 1
 profile_code profile.Two = 2

@@ -1,4 +1,4 @@
--- What a host asks for.
+-- The options of a call from C, and which of them are in range.
 use Rattle.std.specs.Prelude.{◌≡◌, ◌≤◌, ◌^◌, ℕ, Option, Some, None, if◌then◌else◌, nat_eq, nat_lt}
 use Rattle.wm_syntax.specs.declared.profile.Profile.{Profile}
 use Rattle.wm_rules.specs.declared.policy.Policy.{Policy}
@@ -7,10 +7,11 @@ use Rattle.wm_read.specs.declared.spellings.Spellings.TheVariants.{Standard, Old
 use Rattle.wm_c.specs.declared.options.Options.{Options}
 use Rattle.wm_c.specs.Codes.{profile_code}
 
--- a limit of 2^32 and more is none
+-- The limit of a policy for a number. A number from 2^32 up is no limit.
 abbrev pub limit_of : ℕ → Option ℕ
 limit_of n = if nat_lt n (2 ^ 32) then Some n else None
 
+-- The policy that the options ask for.
 abbrev pub policy_of : Options → Policy
 policy_of o = record {
   functions = limit_of o.functions;
@@ -18,25 +19,26 @@ policy_of o = record {
   depth = limit_of o.depth;
 }
 
--- the words that a text may have: those of older tools too by 1
+-- The spellings for a number: `Older` for 1, and `Standard` for any other.
 abbrev pub spellings_by : ℕ → Spellings
 spellings_by n = if nat_eq n 1 then Older else Standard
 
+-- The spellings that the options ask for.
 abbrev pub spellings_of : Options → Spellings
 spellings_of o = spellings_by o.old_words
 
--- the options are in range, and name this profile
+-- The options are in range, and ask for this profile.
 pub record Asks (o : Options) (p : Profile) : Type 0 where
   pub size : o.size ≡ 56
   pub profile : o.profile ≡ profile_code p
   pub max_bytes : o.max_bytes ≤ 2 ^ 62
   pub old_words : o.old_words ≤ 1
 
--- the options are in range, and this holds of the profile, the limit and the policy that they ask for
+-- The options are in range, and P holds for the profile, the limit and the policy that they ask for.
 abbrev pub Asking : Options → (Profile → ℕ → Policy → Type 0) → Type 0
 Asking o P = (p : Profile) × Asks o p × P p o.max_bytes (policy_of o)
 
--- options of a profile's number and a limit, with no policy
+-- The options with this profile's number and this limit, no policy and the standard spellings.
 abbrev pub plain_options : ℕ → ℕ → Options
 plain_options profile limit = record {
   size = 56;

@@ -1,4 +1,4 @@
--- What a session has taken.
+-- The state of a session: the bytes that it has taken, its refusal and its answer.
 use Rattle.std.specs.Prelude.{◌≡◌, ℕ, List, IfSome, Some}
 use Rattle.wm_syntax.specs.declared.profile.Profile.{Profile}
 use Rattle.wm_syntax.specs.declared.why.Why.TheVariants.{Memory}
@@ -11,34 +11,35 @@ use Rattle.wm_c.specs.declared.session.State.{State}
 use Rattle.wm_c.specs.declared.session.State.TheVariants.{Reading, Ended}
 use Rattle.wm_c.specs.Answers.{IsAnswerOf}
 
--- Its validator has read just these bytes, or its answer is one to just these.
+-- The state fits these bytes: its validator has read them, or its answer is a right answer to them.
 abbrev pub StateTaken : State → Profile → ℕ → Policy → List ℕ → Type 0
 StateTaken (Reading v) p limit q bytes = HasRead v p limit q bytes
 StateTaken (Ended a) p limit q bytes = IsAnswerOf p limit q bytes a
 
+-- The session has taken these bytes.
 abbrev pub HasTaken : Session → Profile → ℕ → Policy → List ℕ → Type 0
 HasTaken s p limit q bytes = StateTaken s.state p limit q bytes
 
--- it has this answer
+-- The session has this answer.
 abbrev pub HasEnded : Session → Answer → Type 0
 HasEnded s a = s.state ≡ Ended a
 
--- some answer
+-- The session has its answer.
 abbrev pub IsOver : State → Type 0
 IsOver (Reading v) = ⊥
 IsOver (Ended a) = Unit {0}
 
--- it has no answer yet
+-- The session has no answer yet.
 abbrev pub IsReading : State → Type 0
 IsReading (Reading v) = Unit {0}
 IsReading (Ended a) = ⊥
 
--- it was refused memory
+-- The session has no answer yet, and its validator has the refusal `Memory`.
 abbrev pub StateRanOut : State → Type 0
 StateRanOut (Reading v) = IfSome (refusal_in v) (λ r. r.why ≡ Memory)
 StateRanOut (Ended a) = ⊥
 
--- it reads no more, since its validator refused so
+-- The session has no answer yet, and its validator has this refusal.
 abbrev pub StateRefused : State → Refusal → Type 0
 StateRefused (Reading v) r = refusal_in v ≡ Some r
 StateRefused (Ended a) r = ⊥

@@ -1,4 +1,4 @@
-//! What C is answered.
+//! The answer to an input, as C gets it.
 
 ghost use Rattle.std.specs.Prelude.{◌≡◌};
 ghost use Rattle.wm_c.specs.Answers.{in_numbers, misuse};
@@ -7,7 +7,7 @@ use crate::codes::{refused_status, why_number};
 use wm_decode::Refusal;
 use wm_rules::Summary;
 
-/// The answer to an input: `wmod_answer` of the header, which says what each field means.
+/// `wmod_answer` of the header, which documents each field.
 #[repr(C)]
 #[derive(Clone, Copy, PartialEq, Eq, Debug)]
 pub struct Answer {
@@ -22,7 +22,7 @@ pub struct Answer {
 }
 
 impl Answer {
-    /// A validator's answer, in numbers.
+    /// Returns a validator's answer in numbers.
     pub(crate) fn of(found: Result<Summary, Refusal>) -> Answer
         ensures { result ≡ in_numbers found }
     {
@@ -50,7 +50,7 @@ impl Answer {
         }
     }
 
-    /// An argument was out of range.
+    /// Returns the answer to an argument that is out of range, or to an empty handle.
     pub(crate) fn misused() -> Answer
         ensures { result ≡ misuse }
     {

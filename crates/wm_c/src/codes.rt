@@ -1,4 +1,4 @@
-//! The numbers that stand for words at the border to C.
+//! The numbers of refusals, statuses and profiles in the C interface.
 
 ghost use Rattle.std.specs.Prelude.{◌≡◌, ◌≢◌, MatchOption};
 ghost use Rattle.wm_syntax.specs.declared.why.Why.{Why as AWhy};
@@ -10,7 +10,7 @@ use wm_read::faults::TextWhy;
 use wm_syntax::profile::Profile;
 use wm_syntax::why::Why;
 
-/// The number of a refusal, from 1 on.
+/// The number of a refusal, 1 to 30.
 pub(crate) fn why_number(why: Why) -> u32
     ensures { result ≡ why_code why }
 {
@@ -48,7 +48,7 @@ pub(crate) fn why_number(why: Why) -> u32
     }
 }
 
-/// How a call ended that answers this refusal.
+/// The status of a call that ends with this refusal: 4 for `Memory`, and 1 for any other.
 pub(crate) fn refused_status(why: Why) -> u32
     ensures { result ≡ status_code why }
 {
@@ -58,7 +58,7 @@ pub(crate) fn refused_status(why: Why) -> u32
     }
 }
 
-/// The refusal of this number.
+/// Returns the refusal with this number.
 pub(crate) fn why_of(number: u32) -> Option<Why>
     ensures { MatchOption result ((why : AWhy) → number ≢ why_code why) (λ why. number ≡ why_code why) }
 {
@@ -97,7 +97,7 @@ pub(crate) fn why_of(number: u32) -> Option<Why>
     }
 }
 
-/// The number of a text's refusal, from 101 on.
+/// The number of a text's refusal, 101 to 121.
 pub(crate) fn text_number(why: TextWhy) -> u32
     ensures { result ≡ text_code why }
 {
@@ -126,7 +126,7 @@ pub(crate) fn text_number(why: TextWhy) -> u32
     }
 }
 
-/// How a call ended that answers this refusal of a text.
+/// The status of a call that ends with this refusal of a text: 4 for `Memory`, and 1 for any other.
 pub(crate) fn text_status(why: TextWhy) -> u32
     ensures { result ≡ text_status_code why }
 {
@@ -136,7 +136,7 @@ pub(crate) fn text_status(why: TextWhy) -> u32
     }
 }
 
-/// The refusal of a text of this number.
+/// Returns the refusal of a text with this number.
 pub(crate) fn text_of(number: u32) -> Option<TextWhy>
     ensures { MatchOption result ((why : ATextWhy) → number ≢ text_code why) (λ why. number ≡ text_code why) }
 {
@@ -166,7 +166,7 @@ pub(crate) fn text_of(number: u32) -> Option<TextWhy>
     }
 }
 
-/// The profile of this number.
+/// Returns the profile with this number, 1 to 4.
 pub(crate) fn profile_of(number: u64) -> Option<Profile>
     ensures { MatchOption result ((p : AProfile) → number ≢ profile_code p) (λ p. number ≡ profile_code p) }
 {

@@ -1,4 +1,4 @@
-//! A module converted into a buffer of C's.
+//! The calls that convert a module and write the result to a buffer of the caller.
 
 ghost use Rattle.std.specs.Prelude.{◌≡◌, ◌≢◌, ◌<◌, ◌≤◌, ◌+◌, ◌^◌, Err, IfOk, IfErr, length};
 ghost use Rattle.wm_c.specs.Answers.{IsRight};
@@ -26,7 +26,7 @@ use wm_syntax::why::Why;
 use wm_write::check_module::{CheckFault, checked_bytes};
 use wm_write::in_memory::{MakeFault, encoded, printed};
 
-/// Writes the canonical binary of a valid module. The result is the output's status.
+/// Writes the canonical binary of a valid module, and returns the output's status.
 #[unsafe(no_mangle)]
 pub extern "C" fn wmod_canon(
     alloc: Global,
@@ -36,7 +36,7 @@ pub extern "C" fn wmod_canon(
     output: &mut Output,
 ) -> u32
     ensures converted { ConvertedFrom canon options.now bytes.now out.old out.new output.new }
-    // No canonical binary is longer than its module's bytes.
+    // A buffer as long as the input is enough: no canonical binary is longer than its module's bytes.
     ensures enough { length bytes.now ≤ length out.old → result ≢ 5 }
     ensures status { result ≡ output.new.status }
 {
@@ -50,7 +50,7 @@ pub extern "C" fn wmod_canon(
     output.status
 }
 
-/// Writes the text of a valid module. The result is the output's status.
+/// Writes the text of a valid module, and returns the output's status.
 #[unsafe(no_mangle)]
 pub extern "C" fn wmod_show(
     alloc: Global,
@@ -72,7 +72,7 @@ pub extern "C" fn wmod_show(
     output.status
 }
 
-/// Writes the canonical binary of the valid module that a text writes. The result is the output's status.
+/// Writes the canonical binary of the valid module that a text writes, and returns the output's status.
 #[unsafe(no_mangle)]
 pub extern "C" fn wmod_build(
     alloc: Global,
@@ -82,7 +82,7 @@ pub extern "C" fn wmod_build(
     output: &mut Output,
 ) -> u32
     ensures converted { ConvertedText options.now text.now out.old out.new output.new }
-    // A text above the limit is refused for that alone, whatever it says and whatever memory there is.
+    // A text above the limit is refused as `TooLong`, whatever its bytes, and even if memory is short.
     ensures too_long { result ≢ 2 → options.now.max_bytes < length text.now
         → output.new ≡ unbuilt (Unbuilt.TooLong (options.now.max_bytes + 1)) }
     ensures status { result ≡ output.new.status }
@@ -97,7 +97,7 @@ pub extern "C" fn wmod_build(
     output.status
 }
 
-// A loaded module is not too large: so memory was refused. The place says nothing.
+/// Returns the refusal `Memory`: a loaded module is never too large. The offset 0 has no meaning.
 fn out_of_memory(fault: MakeFault) -> Refusal
     requires { fault ≢ MakeFault.TooLarge }
     ensures why { result.why ≡ Why.Memory }

@@ -1,4 +1,4 @@
-//! A session as C holds it.
+//! The handle of C: a pointer to a session.
 
 ghost use Rattle.std.specs.Prelude.{◌≡◌, Option, Some, None, MatchOption};
 ghost use Rattle.wm_c.specs.declared.session.Session.{Session as ASession};
@@ -23,7 +23,7 @@ impl Model for Handle {
 }
 
 impl Handle {
-    /// Null.
+    /// Returns the null handle.
     pub(crate) fn empty() -> Handle
         ensures { result.held ≡ None }
     {
@@ -32,7 +32,7 @@ impl Handle {
         }
     }
 
-    /// The session as its pointer.
+    /// Returns the handle of a session.
     pub(crate) fn of(l: Loose<Session, Global>) -> Handle
         ensures { result.held ≡ Some l.value }
     {
@@ -40,7 +40,7 @@ impl Handle {
         Handle { at: at as *mut u8 }
     }
 
-    /// The session again, if there is one.
+    /// Returns the session of the handle, or `None` if the handle is null.
     pub(crate) fn take(self, alloc: Global) -> Option<Loose<Session, Global>>
         ensures { MatchOption result (self.held ≡ None) (λ l. self.held ≡ Some l.value) }
     {

@@ -1,4 +1,4 @@
-//! The interface for C: `include/wmod.h` documents each call.
+//! The C interface. `include/wmod.h` documents each call.
 #![tactic(auto)]
 
 pub mod answer;

@@ -1,4 +1,4 @@
-//! The names of refusals, and the version.
+//! The calls for the name of a refusal and for the version.
 
 ghost use Rattle.std.specs.Prelude.{◌≡◌, ℕ, List, [], length};
 ghost use Rattle.wm_c.specs.Names.{HasName, IsWritten};
@@ -6,7 +6,8 @@ ghost use Rattle.wm_c.specs.Names.{HasName, IsWritten};
 use crate::codes::{text_of, why_of};
 use crate::output::TOO_LARGE;
 
-/// Writes the name of a refusal and a 0, as far as there is room, and answers the name's length.
+/// Writes the name of a refusal and a 0, as far as there is room. Returns the length of the name in bytes, or 0 if
+/// no refusal has this number.
 #[unsafe(no_mangle)]
 pub extern "C" fn wmod_why_name(why: u32, name: &mut [u8]) -> usize
     ensures named { (word : List ℕ) → HasName why word → (result ≡ length word)
@@ -45,8 +46,7 @@ fn write(word: &[u8], to: &mut [u8])
     rest[0] = 0;
 }
 
-/// The version of the interface, as `WMOD_VERSION` of the header: its major part times 65536, and its
-/// minor part.
+/// Returns the version of the interface, as `WMOD_VERSION` of the header: major * 65536 + minor.
 #[unsafe(no_mangle)]
 pub extern "C" fn wmod_version() -> u32
     ensures { result ≡ 65537 }

@@ -1,4 +1,4 @@
-//! What a host asks for.
+//! The options of a call from C, and which of them are in range.
 
 ghost use Rattle.std.specs.Prelude.{◌≡◌, ◌<◌, ◌≤◌, MatchOption};
 ghost use Rattle.wm_syntax.specs.declared.profile.Profile.{Profile as AProfile};
@@ -9,7 +9,7 @@ use wm_read::spellings::Spellings;
 use wm_rules::Policy;
 use wm_syntax::profile::Profile;
 
-/// `wmod_options` of the header, which says what each field means.
+/// `wmod_options` of the header, which documents each field.
 #[repr(C)]
 #[derive(Clone, Copy, PartialEq, Eq, Debug)]
 pub struct Options {
@@ -22,16 +22,16 @@ pub struct Options {
     pub old_words: u64,
 }
 
-/// The size of the options in bytes.
+/// The size of `Options` in bytes.
 const SIZE: u64 = 56;
 
-/// The greatest limit that a validator takes, in bytes.
+/// The greatest limit of an input, in bytes.
 const MOST: u64 = 1 << 62;
 
-/// A limit of a policy that is none.
+/// The least number that means no limit in a policy.
 const NO_LIMIT: u64 = 1 << 32;
 
-/// Options that are in range.
+/// Options that are in range, parsed.
 #[derive(Clone, Copy)]
 pub(crate) struct Asked {
     pub(crate) profile: Profile,
@@ -41,7 +41,7 @@ pub(crate) struct Asked {
 }
 
 impl Options {
-    /// A profile and a limit, and no policy.
+    /// Returns options with this profile and this limit, no policy and the standard spellings.
     pub(crate) fn plain(profile: u32, max_bytes: u64) -> Options
         ensures { result ≡ plain_options profile max_bytes }
     {
@@ -56,7 +56,7 @@ impl Options {
         }
     }
 
-    /// What they ask for, if they are in range.
+    /// Returns the parsed options, or `None` if one is out of range.
     pub(crate) fn asked(&self) -> Option<Asked>
         ensures { MatchOption result ((p : AProfile) → Asks self.now p → ⊥) (λ a. Asks self.now a.profile
             × (a.max_bytes ≡ self.now.max_bytes) × (a.policy ≡ policy_of self.now)
@@ -86,7 +86,7 @@ impl Options {
     }
 }
 
-// The spellings of a text that the field of old words asks for.
+/// Returns the spellings for the field `old_words`, or `None` if it is above 1.
 fn spellings_of(old_words: u64) -> Option<Spellings>
     ensures { MatchOption result (1 < old_words) (λ s. (old_words ≤ 1) × (s ≡ spellings_by old_words)) }
 {

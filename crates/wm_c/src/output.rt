@@ -1,4 +1,4 @@
-//! What C is told of a conversion.
+//! The result of a conversion, as C gets it.
 
 ghost use Rattle.std.specs.Prelude.{◌≡◌, ◌<◌, ◌≤◌, length};
 ghost use Rattle.wm_c.specs.Conversions.{Fills, misuse, no_room, refuses, unbuilt, unchecked, wrote};
@@ -9,7 +9,7 @@ use wm_read::faults::TextRefusal;
 use wm_syntax::why::Why;
 use wm_write::check_module::CheckFault;
 
-/// How a conversion ended: `wmod_output` of the header, which says what each field means.
+/// `wmod_output` of the header, which documents each field.
 #[repr(C)]
 #[derive(Clone, Copy, PartialEq, Eq, Debug)]
 pub struct Output {
@@ -19,29 +19,29 @@ pub struct Output {
     pub length: u64,
 }
 
-/// Why a text has no binary.
+/// Why no binary is given for a text.
 #[derive(Clone, Copy, PartialEq, Eq, Debug)]
 pub enum Unbuilt {
-    /// It is longer than the limit; this is the place after the last byte that there may be.
+    /// It is longer than the limit. The offset is the limit plus 1.
     TooLong(u64),
-    /// It writes no module.
+    /// It writes no module of the profile, or memory was refused.
     Text(TextRefusal),
-    /// The module that it writes is not to be encoded.
+    /// It writes a module for which no binary is given.
     Check(CheckFault),
 }
 
-/// The number of a module of which a section is too large.
+/// The number of the refusal of a module with a section that is too large.
 pub(crate) const TOO_LARGE: u32 = 100;
 
 impl Output {
-    /// An option was out of range.
+    /// Returns the output for an option that is out of range.
     pub(crate) fn misused() -> Output
         ensures { result ≡ misuse }
     {
         Output::ended(2, 0, 0)
     }
 
-    /// The refusal of a module.
+    /// Returns the output for a refusal of a module.
     pub(crate) fn refused(refusal: Refusal) -> Output
         ensures { result ≡ refuses refusal }
     {
@@ -52,7 +52,7 @@ impl Output {
         )
     }
 
-    /// Why a module that a text writes has no binary.
+    /// Returns the output for a module for which no binary is given.
     pub(crate) fn unchecked(fault: CheckFault) -> Output
         ensures { result ≡ unchecked fault }
     {
@@ -63,7 +63,7 @@ impl Output {
         }
     }
 
-    /// Why a text has no binary.
+    /// Returns the output for a text for which no binary is given.
     pub(crate) fn unbuilt(found: Unbuilt) -> Output
         ensures { result ≡ unbuilt found }
     {
@@ -93,7 +93,7 @@ impl Output {
     }
 }
 
-/// Writes these bytes to the front of a buffer, where there is room for them.
+/// Copies `from` to the front of `out`. If there is no room, copies nothing and returns the length that is needed.
 pub(crate) fn filled(from: &[u8], out: &mut [u8]) -> Output
     ensures whole { length from.now ≤ length out.old → (result ≡ wrote (length from.now))
         × Fills from.now out.old out.new }

@@ -1,4 +1,4 @@
-//! An input that comes in pieces.
+//! The calls for an input in pieces.
 
 ghost use Rattle.std.specs.Prelude.{◌≡◌, ◌≢◌, ◌++◌, ◌↔◌, ◌⊎◌, ℕ, List, [], Err, None};
 ghost use Rattle.wm_c.specs.Answers.{IsAnswerOf, in_numbers, misuse};
@@ -19,7 +19,8 @@ use crate::session::Session;
 use std::alloc::Global;
 use std::mem;
 
-/// Begins an input, to be judged under no policy.
+/// Begins an input that is judged under no policy. Returns 0, 2 if the profile or the limit is out of range, or 4 if
+/// memory is refused. Unless it returns 2, it frees what the handle held.
 #[unsafe(no_mangle)]
 pub extern "C" fn wmod_begin(alloc: Global, v: &mut Handle, profile: u32, max_bytes: u64) -> u32
     ensures begun { result ≡ 0 → Asking (plain_options profile max_bytes) (λ p limit q.
@@ -28,7 +29,7 @@ pub extern "C" fn wmod_begin(alloc: Global, v: &mut Handle, profile: u32, max_by
     ensures unrefused { result ≡ 0 → (r : ARefusal) → HoldsRefusal v.new.held r → ⊥ }
     ensures misused { result ≡ 2 → (v.new.held ≡ v.old.held)
         × ((p : AProfile) → Asks (plain_options profile max_bytes) p → ⊥) }
-    // Any other status is answered to options in range alone.
+    // Any other status comes only for options in range.
     ensures asked { result ≢ 2 → (p : AProfile) × Asks (plain_options profile max_bytes) p }
     ensures memory { result ≡ 4 → v.new.held ≡ None }
     ensures status { (result ≡ 0) ⊎ (result ≡ 2) ⊎ (result ≡ 4) }
@@ -36,14 +37,14 @@ pub extern "C" fn wmod_begin(alloc: Global, v: &mut Handle, profile: u32, max_by
     begin(alloc, v, &Options::plain(profile, max_bytes))
 }
 
-/// Begins an input, to be judged as the options ask.
+/// Begins an input that is judged by options. Returns 0, 2 if an option is out of range, or 4 if memory is refused.
 #[unsafe(no_mangle)]
 pub extern "C" fn wmod_begin_with(alloc: Global, v: &mut Handle, options: &Options) -> u32
     ensures begun { result ≡ 0 → Asking options.now (λ p limit q. Holds v.new.held p limit q []) }
     ensures ready { result ≡ 0 → TakesPieces v.new.held }
     ensures unrefused { result ≡ 0 → (r : ARefusal) → HoldsRefusal v.new.held r → ⊥ }
     ensures misused { result ≡ 2 → (v.new.held ≡ v.old.held) × ((p : AProfile) → Asks options.now p → ⊥) }
-    // Any other status is answered to options in range alone.
+    // Any other status comes only for options in range.
     ensures asked { result ≢ 2 → (p : AProfile) × Asks options.now p }
     ensures memory { result ≡ 4 → v.new.held ≡ None }
     ensures status { (result ≡ 0) ⊎ (result ≡ 2) ⊎ (result ≡ 4) }
@@ -74,23 +75,24 @@ fn begin(alloc: Global, v: &mut Handle, options: &Options) -> u32
     }
 }
 
-/// Takes the next piece.
+/// Takes the next piece. Returns 0 if nothing is refused so far, 1 or 4 for a refusal, and 2 if the handle is empty
+/// or its input was finished.
 #[unsafe(no_mangle)]
 pub extern "C" fn wmod_feed(alloc: Global, v: &mut Handle, piece: &[u8]) -> u32
     ensures taken { result ≢ 2 → (p : AProfile) (limit : ℕ) (q : APolicy) (before : List ℕ)
         → Holds v.old.held p limit q before → Holds v.new.held p limit q (before ++ piece.now) }
-    // No input that begins so is accepted.
+    // No input that begins with these bytes is accepted.
     ensures refused { result ≡ 1 → (p : AProfile) (limit : ℕ) (q : APolicy) (before : List ℕ)
         → Holds v.old.held p limit q before
         → (more : List ℕ) → Accepted p limit q ((before ++ piece.now) ++ more) → ⊥ }
-    // Misuse is answered where the handle is empty or its input has ended, and changes nothing.
+    // Status 2 comes if and only if the handle is empty or its input was finished. It changes nothing.
     ensures over { (result ≡ 2) ↔ TakesNothing v.old.held }
     ensures misused { result ≡ 2 → v.new.held ≡ v.old.held }
-    // A piece that is taken, refused or not, leaves a handle that takes pieces.
+    // After any other status, also after a refusal, the handle takes pieces.
     ensures ready { result ≢ 2 → TakesPieces v.new.held }
     ensures unrefused { result ≡ 0 → (r : ARefusal) → HoldsRefusal v.new.held r → ⊥ }
     ensures memory { result ≡ 4 → RanOut v.new.held }
-    // The first refusal stays.
+    // The handle keeps the first refusal, and later pieces get its status.
     ensures first { result ≢ 0 → result ≢ 2 → (r : ARefusal) × (result ≡ status_code r.why)
         × HoldsRefusal v.new.held r }
     ensures stays { (r : ARefusal) → HoldsRefusal v.old.held r → (result ≡ status_code r.why)
@@ -107,14 +109,14 @@ pub extern "C" fn wmod_feed(alloc: Global, v: &mut Handle, piece: &[u8]) -> u32
     }
 }
 
-/// The end of the input.
+/// Ends the input, writes the answer and returns its status: 2 if the handle is empty.
 #[unsafe(no_mangle)]
 pub extern "C" fn wmod_finish(alloc: Global, v: &mut Handle, answer: &mut Answer) -> u32
     ensures answers { (p : AProfile) (limit : ℕ) (q : APolicy) (input : List ℕ)
         → Holds v.old.held p limit q input → IsAnswerOf p limit q input answer.new }
-    // What was refused is answered.
+    // A refusal that the handle holds is the answer.
     ensures told { (r : ARefusal) → HoldsRefusal v.old.held r → answer.new ≡ in_numbers (Err r) }
-    // A second call gives the same and changes nothing.
+    // A second call gives the same answer and changes nothing.
     ensures again { (a : AnAnswer) → HoldsAnswer v.old.held a
         → (answer.new ≡ a) × (v.new.held ≡ v.old.held) }
     ensures ended { v.old.held ≢ None → HoldsAnswer v.new.held answer.new }
@@ -125,7 +127,7 @@ pub extern "C" fn wmod_finish(alloc: Global, v: &mut Handle, answer: &mut Answer
     answer.status
 }
 
-/// Gives back what the handle holds.
+/// Frees what the handle holds, and leaves it empty.
 #[unsafe(no_mangle)]
 pub extern "C" fn wmod_end(alloc: Global, v: &mut Handle)
     ensures { v.new.held ≡ None }

@@ -1,4 +1,4 @@
-//! A module that C hands over in pieces.
+//! A session: a validator, or the answer after the end of the input.
 
 ghost use Rattle.std.specs.Prelude.{◌≡◌, ◌≢◌, ◌≤◌, ◌^◌, ◌++◌, ◌↔◌, ℕ, List, [], Err, IfSome, Some};
 ghost use Rattle.wm_c.specs.Answers.{IsAnswerOf, IsRight, in_numbers};
@@ -21,13 +21,13 @@ use std::mem;
 use wm_decode::Refusal;
 use wm_rules::{Summary, Validator};
 
-/// Judges a module that comes in pieces, and keeps its answer.
+/// Judges an input that comes in pieces, and keeps the answer.
 #[derive(Drop)]
 pub struct Session {
     pub state: State,
 }
 
-/// A session reads, or has its answer.
+/// The state of a session: it reads, or it has its answer.
 #[derive(Drop)]
 pub enum State {
     Reading(Validator),
@@ -35,7 +35,7 @@ pub enum State {
 }
 
 impl Session {
-    /// Has taken nothing, and takes no memory.
+    /// Returns a session that has taken no byte. Allocates nothing.
     #[tactic(auto, using(crate::proofs::Begun::nothing_refused))]
     pub(crate) fn new(alloc: Global, asked: Asked) -> Session
         requires { asked.max_bytes ≤ 2 ^ 62 }
@@ -54,21 +54,22 @@ impl Session {
         }
     }
 
-    /// Takes the next piece, and answers 0 to go on, a refusal's status, or 2 where it had ended.
+    /// Takes the next piece. Returns 0 if nothing is refused so far, the status of the refusal if there is one, and 2
+    /// if the session has its answer.
     pub fn feed(&mut self, piece: &[u8]) -> u32
         ensures taken { result ≢ 2 → (p : AProfile) (limit : ℕ) (q : APolicy) (before : List ℕ)
             → HasTaken self.old p limit q before → HasTaken self.new p limit q (before ++ piece.now) }
-        // No input that begins so is accepted.
+        // No input that begins with these bytes is accepted.
         ensures refused { result ≡ 1 → (p : AProfile) (limit : ℕ) (q : APolicy) (before : List ℕ)
             → HasTaken self.old p limit q before
             → (more : List ℕ) → Accepted p limit q ((before ++ piece.now) ++ more) → ⊥ }
         ensures over { (result ≡ 2) ↔ IsOver self.old.state }
         ensures misused { result ≡ 2 → self.new ≡ self.old }
-        // A piece that it takes never ends it, refused or not.
+        // A piece never ends a session that reads, even if it is refused.
         ensures ready { result ≢ 2 → IsReading self.new.state }
         ensures unrefused { result ≡ 0 → (r : ARefusal) → StateRefused self.new.state r → ⊥ }
         ensures memory { result ≡ 4 → StateRanOut self.new.state }
-        // The first refusal stays.
+        // The session keeps the first refusal, and later pieces get its status.
         ensures first { result ≢ 0 → result ≢ 2 → (r : ARefusal) × (result ≡ status_code r.why)
             × StateRefused self.new.state r }
         ensures stays { (r : ARefusal) → StateRefused self.old.state r → (result ≡ status_code r.why)
@@ -80,11 +81,11 @@ impl Session {
         }
     }
 
-    /// The answer to what it has taken. Another call gives it again.
+    /// Returns the answer to the bytes taken so far, and ends the session. Another call returns it again.
     pub fn finish(&mut self) -> Answer
         ensures answers { (p : AProfile) (limit : ℕ) (q : APolicy) (input : List ℕ)
             → HasTaken self.old p limit q input → IsAnswerOf p limit q input result }
-        // What was refused is answered.
+        // A refusal that the session holds is the answer.
         ensures told { (r : ARefusal) → StateRefused self.old.state r → result ≡ in_numbers (Err r) }
         ensures ended { HasEnded self.new result }
         ensures again { (a : _) → HasEnded self.old a → (result ≡ a) × (self.new ≡ self.old) }
@@ -95,7 +96,7 @@ impl Session {
     }
 }
 
-// Its status after one more piece.
+/// Feeds the validator a piece, and returns 0 or the status of its refusal.
 #[tactic(auto, using(crate::proofs::Statuses::not_none))]
 fn fed(validator: &mut Validator, piece: &[u8]) -> u32
     ensures read { HavingRead validator.old (λ p limit q before.
@@ -128,7 +129,7 @@ fn answer_of(state: State) -> Answer
     }
 }
 
-/// Its answer at the end.
+/// Returns the validator's answer at the end of the input.
 pub(crate) fn found(validator: Validator) -> Result<Summary, Refusal>
     ensures right { HavingRead validator (λ p limit q input. IsRight p limit q input result) }
     ensures told { (r : ARefusal) → refusal_in validator ≡ Some r → result ≡ Err r }

@@ -1,4 +1,4 @@
-//! A whole input in one call.
+//! The calls that judge a whole input at once.
 
 ghost use Rattle.std.specs.Prelude.{◌≡◌, ◌≢◌, ◌≤◌, ◌^◌};
 ghost use Rattle.wm_c.specs.Answers.{IsAnswerOf, misuse};
@@ -15,7 +15,7 @@ use crate::session::found;
 use std::alloc::Global;
 use wm_rules::Validator;
 
-/// Judges a whole input under no policy, and writes the answer. The result is the answer's status.
+/// Judges a whole input under no policy, writes the answer and returns its status. `max_bytes` is at most 2^62.
 #[unsafe(no_mangle)]
 pub extern "C" fn wmod_validate(
     alloc: Global,
@@ -24,16 +24,16 @@ pub extern "C" fn wmod_validate(
     max_bytes: u64,
     answer: &mut Answer,
 ) -> u32
-    // The answer is the validator's, in numbers.
+    // The answer is one that a validator may give.
     ensures answered { result ≢ 2 → Asking (plain_options profile max_bytes) (λ p limit q.
         IsAnswerOf p limit q bytes.now answer.new) }
-    // Valid is answered for accepted inputs alone.
+    // Status 0 comes only for an accepted input.
     ensures valid { result ≡ 0 → Asking (plain_options profile max_bytes) (λ p limit q.
         Accepted p limit q bytes.now) }
-    // Refused is answered for no accepted input.
+    // Status 1 comes only for an input that is not accepted.
     ensures refused { result ≡ 1 → Asking (plain_options profile max_bytes) (λ p limit q.
         Accepted p limit q bytes.now → ⊥) }
-    // A number that is no profile's, or a limit that is too great.
+    // The profile or the limit is out of range.
     ensures misused { result ≡ 2 → (answer.new ≡ misuse)
         × ((p : AProfile) → Asks (plain_options profile max_bytes) p → ⊥) }
     ensures memory { result ≡ 4 → answer.new.why ≡ why_code Memory }
@@ -43,7 +43,7 @@ pub extern "C" fn wmod_validate(
     answer.status
 }
 
-/// The same as the options ask: with a policy too.
+/// Judges a whole input by options, writes the answer and returns its status.
 #[unsafe(no_mangle)]
 pub extern "C" fn wmod_validate_with(
     alloc: Global,
@@ -51,14 +51,14 @@ pub extern "C" fn wmod_validate_with(
     options: &Options,
     answer: &mut Answer,
 ) -> u32
-    // The answer is the validator's, in numbers.
+    // The answer is one that a validator may give.
     ensures answered { result ≢ 2 → Asking options.now (λ p limit q.
         IsAnswerOf p limit q bytes.now answer.new) }
-    // Valid is answered for accepted inputs alone.
+    // Status 0 comes only for an accepted input.
     ensures valid { result ≡ 0 → Asking options.now (λ p limit q. Accepted p limit q bytes.now) }
-    // Refused is answered for no accepted input.
+    // Status 1 comes only for an input that is not accepted.
     ensures refused { result ≡ 1 → Asking options.now (λ p limit q. Accepted p limit q bytes.now → ⊥) }
-    // Options that are out of range.
+    // An option is out of range.
     ensures misused { result ≡ 2 → (answer.new ≡ misuse) × ((p : AProfile) → Asks options.now p → ⊥) }
     ensures memory { result ≡ 4 → answer.new.why ≡ why_code Memory }
     ensures status { result ≡ answer.new.status }
@@ -93,7 +93,7 @@ fn read(alloc: Global, bytes: &[u8], asked: Asked) -> Validator
         spellings: _,
     } = asked;
     let mut validator = Validator::new(alloc, profile, max_bytes, policy);
-    // a refusal stays, and the end answers it
+    // the validator keeps a refusal, and `finish` returns it
     let _ = validator.feed(bytes);
     validator
 }

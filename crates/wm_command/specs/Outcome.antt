@@ -67,8 +67,8 @@ OutOf Show p limit q s input =
     Judged (λ written. (m : Module) × Loads p limit q input m × (written ≡ layout m)) p limit q input
 OutOf Build p limit q s input = BuildOut p limit q s input
 
--- The output and the status are right for the input. Either the input was read to its end; or they are right for
--- every input that begins with a certain prefix of this one.
+-- The output and the status are right for the input. Either the input was read to its end, or they are right for
+-- every input that begins with some prefix of this one.
 abbrev pub IsRightFor : Action → Profile → ℕ → Policy → Spellings → List ℕ → Option (List ℕ) → List ℕ → Status
     → Type 0
 IsRightFor action p limit q s input left written status =

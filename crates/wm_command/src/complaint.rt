@@ -31,7 +31,7 @@ pub fn explain_fault<R: Print + Eprint + AllocGlobal>(
     words: &[String],
     fault: LineFault,
 ) -> Result<Status, LineFault>
-    // `Ok` comes only for help or the version, whose exit status is else 0.
+    // `Ok` comes only for help or the version: their exit status is 0 otherwise.
     ensures ok { IfOk result (λ status. (status ≡ Status.Io) × (fault_code fault ≡ 0)) }
     ensures err { IfErr result (λ e. e ≡ fault) }
 {
