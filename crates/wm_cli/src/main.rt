@@ -11,7 +11,8 @@ use wm_command::explain::{explain, is_asked};
 use wm_command::line::line;
 use wm_command::status::{Status, exit_code};
 
-/// The words that the program was started with.
+/// Returns the arguments, the first of which is the program's name. Reports a failure on standard error: `Memory` if
+/// memory is refused, and `Words` if the system gives no arguments.
 fn read_words<R: Env + Eprint + AllocGlobal>(rt: &R) -> Result<Vec<String>, LineFault> {
     let fault = match env::args(rt) {
         Ok(words) => match words.collect(rt.alloc()) {
@@ -28,7 +29,7 @@ fn read_words<R: Env + Eprint + AllocGlobal>(rt: &R) -> Result<Vec<String>, Line
     Err(fault)
 }
 
-/// Does what the words say. What standard output can't say, standard error does.
+/// Does what the arguments ask. Failures are reported on standard error.
 fn obey<R: Env + Files + Input + Print + Eprint + AllocGlobal>(
     rt: &R,
 ) -> Result<Status, LineFault> {
@@ -42,7 +43,7 @@ fn obey<R: Env + Files + Input + Print + Eprint + AllocGlobal>(
     }
 }
 
-/// Does what the words say, and tells the system how that ended.
+/// Does what the arguments ask, and returns the exit status.
 fn end<R: Env + Files + Input + Print + Eprint + AllocGlobal>(rt: &R) -> ExitCode {
     ExitCode::from(exit_code(&obey(rt)))
 }

@@ -1,4 +1,4 @@
-//! Tests of what the program writes.
+//! Tests of the program's output and exit statuses.
 
 pub(crate) mod ends;
 pub(crate) mod faults;
@@ -32,8 +32,8 @@ const HEADER: [u8; 8] = [0x00, 0x61, 0x73, 0x6D, 0x01, 0x00, 0x00, 0x00];
 
 const LIMIT: u64 = 4294967295;
 
-/// Some rows for each action. In two of them a function has as many locals as may be; its text has a word for
-/// each, so it is not shown.
+/// Rows for each action. In two of them a function has 2^32 - 1 locals. Its text has a keyword for each local, so
+/// `show` has no row with it.
 const COMMANDS: &str = r#"wmod check < H = 0 valid\n
 wmod check < = 1 refused at 0: Truncated\n
 wmod check --limit 7 < H = 1 refused at 8: TooLong\n
@@ -74,7 +74,7 @@ wmod build --profile 4 < (module (global f64 f64.const 0)) = 0 \x00asm\x01\x00\x
 wmod build --limit 7 < (module) = 1 refused at 8: TooLong\n
 wmod build --limit 8 < (module) = 0 \x00asm\x01\x00\x00\x00"#;
 
-/// Rows for each action within a policy and past it, and of texts with older words.
+/// Rows for each action within a policy and beyond it, and for texts with older keywords.
 const POLICIES: &str =
     r#"wmod --max-functions 0 check < H 01 07 01 60 02 7F 7F 01 7F 03 02 01 00 0A 09 01 07 00 20 00 20 01 6A 0B = 1 refused at 21: ManyFunctions\n
 wmod --max-functions 1 check < H 01 07 01 60 02 7F 7F 01 7F 03 02 01 00 0A 09 01 07 00 20 00 20 01 6A 0B = 0 valid\n
@@ -104,7 +104,8 @@ fn commands(rt: HostRuntime) -> Result<(), Fail> {
     play(&rt, rt.alloc(), POLICIES)
 }
 
-/// An imported function with 100,000 parameters, and one that calls it 50,000 times after `unreachable`.
+/// Returns a module with an imported function of 100,000 parameters, and a function that calls it 50,000 times after
+/// `unreachable`.
 fn wide_calls(alloc: Global) -> Result<Vec<u8>, Fail> {
     let mut bytes = HEADER.to_vec(alloc)?;
     bytes.extend_from_slice(&[0x01, 0xA9, 0x8D, 0x06, 0x02, 0x60, 0xA0, 0x8D, 0x06])?;
@@ -141,7 +142,7 @@ fn texts_of_wide_calls(rt: HostRuntime) -> Result<(), Fail> {
     Ok(())
 }
 
-/// Readers and writers that fail after so many bytes.
+/// Rows for readers and writers that fail after some bytes.
 const CUT_OFF: &str = r#"in 0 wmod check < H = 3 ""
 in 8 wmod show < H = 3 ""
 out 0 wmod check < = 3 ""
@@ -149,8 +150,8 @@ out 3 wmod check < H = 3 "val"
 out 6 wmod check < H = 3 "valid\n"
 out 3 wmod show < H = 3 "(mo""#;
 
-/// In how many runs of `INPUTS` an end fails: as often as it is called in runs without a
-/// fault. The gate prints it.
+/// The number of runs of `INPUTS` in which an end fails: one for each call that an end gets in a run without a fault.
+/// CI prints it.
 const FAILED: &str = "39946 readers and 63372 writers that failed";
 
 #[test]
@@ -169,7 +170,7 @@ fn exit_statuses(rt: HostRuntime) {
     assert!(rt; codes == [0, 1, 3, 4]);
 }
 
-/// `wmod check`, with no file.
+/// Returns the line of `wmod check`, with no file.
 fn plain_line() -> Line {
     Line {
         action: Action::Check,
@@ -202,7 +203,7 @@ fn errors_of_readers_are_kept(rt: HostRuntime) {
     expect_kind(&rt, source.into_inner().error(), ErrorKind::Interrupted);
 }
 
-/// The error of a writer is kept that fails at this call.
+/// Expects that a witness keeps the error of a writer that fails at this call.
 fn expect_kept(rt: &impl Abort, alloc: Global, at: u32) {
     let failing = Mode {
         most: 1,
@@ -220,7 +221,7 @@ fn expect_kept(rt: &impl Abort, alloc: Global, at: u32) {
 #[test]
 fn errors_of_writers_are_kept(rt: HostRuntime) {
     expect_kept(&rt, rt.alloc(), 4);
-    // its flush fails, after `valid` and a line feed
+    // the flush fails, after six writes of one byte: `valid` and a line feed
     expect_kept(&rt, rt.alloc(), 7);
 }
 

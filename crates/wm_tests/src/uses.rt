@@ -10,25 +10,25 @@ use assemble::assemble;
 use rewrite::rewrite;
 use std::alloc::Global;
 
-/// `examples/add.wasm`.
+/// The bytes of `examples/add.wasm`.
 const ADD: [u8; 41] = [
     0x00, 0x61, 0x73, 0x6D, 0x01, 0x00, 0x00, 0x00, 0x01, 0x07, 0x01, 0x60, 0x02, 0x7F, 0x7F, 0x01,
     0x7F, 0x03, 0x02, 0x01, 0x00, 0x07, 0x07, 0x01, 0x03, 0x61, 0x64, 0x64, 0x00, 0x00, 0x0A, 0x09,
     0x01, 0x07, 0x00, 0x20, 0x00, 0x20, 0x01, 0x6A, 0x0B,
 ];
 
-/// Whether the module is admitted in two pieces, and not where the second is missing.
+/// Whether the module is admitted in two pieces, and refused if the second is missing.
 fn admits(alloc: Global) -> bool {
     let (front, rest) = ADD.split_at(20);
     admit(alloc, &[front, rest]).is_ok() && admit(alloc, &[front]).is_err()
 }
 
-/// Whether the module's one function is written again.
+/// Whether the module is written again, with its one function.
 fn rewrites(alloc: Global) -> bool {
     matches!(rewrite(alloc, &ADD[..], Vec::new(alloc)), Ok(Some(1)))
 }
 
-/// Whether a valid text is taken, and one that is not valid is none.
+/// Whether a valid text gives a module, and a text with an invalid module gives none.
 fn assembles(alloc: Global) -> bool {
     assemble(alloc, b"(module)").is_some() && assemble(alloc, b"(module (start 0))").is_none()
 }

@@ -4,12 +4,12 @@ use std::alloc::Global;
 use std::io;
 use std::io::{ErrorKind, Read, Write};
 
-/// What the call does that fails.
+/// How a call fails.
 #[derive(Clone, Copy)]
 pub enum Fault {
-    /// It answers this error.
+    /// It returns this error.
     Error(ErrorKind),
-    /// It takes nothing of what is written, and flushes nothing.
+    /// A write accepts no byte, and a flush fails with `WriteZero`.
     Nothing,
 }
 
@@ -17,17 +17,17 @@ pub const BROKEN: Fault = Fault::Error(ErrorKind::BrokenPipe);
 
 pub const INTERRUPTED: Fault = Fault::Error(ErrorKind::Interrupted);
 
-/// How calls go: each passes at most so many bytes, and one of them fails.
+/// How an end behaves: each call passes at most `most` bytes, and one call may fail.
 #[derive(Clone, Copy)]
 pub struct Mode {
     pub most: usize,
     pub fault: Fault,
-    /// The call that fails, from 1 on; none where it is 0.
+    /// The number of the call that fails, from 1 up. 0 is none.
     pub at: u32,
 }
 
 impl Mode {
-    /// No call fails.
+    /// Returns a mode in which no call fails.
     pub fn by(most: usize) -> Self {
         Mode {
             most,
@@ -36,12 +36,12 @@ impl Mode {
         }
     }
 
-    /// Whether the call has come that fails.
+    /// Whether the failing call is among the first `calls` calls.
     fn has_come(self, calls: u32) -> bool {
         self.at > 0 && calls >= self.at
     }
 
-    /// The most bytes that a call passes.
+    /// The most bytes that this call passes. Fails with the mode's error if it is the failing call.
     fn room(self, call: u32) -> io::Result<usize> {
         match self.fault {
             _ if call != self.at => Ok(self.most),
@@ -51,20 +51,20 @@ impl Mode {
     }
 }
 
-/// Gives its bytes, and remembers how it was asked for them.
+/// A reader of some bytes that records how it is read.
 #[derive(Drop)]
 pub struct Reader<'a> {
     rest: &'a [u8],
     mode: Mode,
     pub calls: u32,
     given: usize,
-    /// How many bytes the last call gave.
+    /// The bytes that the last call gave.
     last: usize,
-    /// The most bytes that it was asked for at once.
+    /// The most bytes that one call asked for.
     pub asked: usize,
-    /// Whether it has failed or told its end.
+    /// Whether it has failed, or was read at its end.
     is_over: bool,
-    /// Whether it was asked again after that.
+    /// Whether a call came after `is_over`.
     is_asked_again: bool,
 }
 
@@ -86,8 +86,8 @@ impl<'a> Reader<'a> {
         self.mode.has_come(self.calls)
     }
 
-    /// Whether it was asked as far as the byte that settled the answer, or else as far as its end or its
-    /// fault; and no further.
+    /// Whether reading stopped in time: in the piece with the deciding byte, or at the end or the fault if no byte
+    /// decided. `settled` is the offset of the deciding byte.
     pub fn is_left_in_time(&self, settled: Option<usize>) -> bool {
         match settled {
             _ if self.is_asked_again => false,
@@ -118,14 +118,14 @@ impl Read for Reader<'_> {
     }
 }
 
-/// Takes what is written. A flush is one of its calls.
+/// A writer that keeps the bytes and counts its calls. A flush is a call too.
 #[derive(Drop)]
 pub struct Writer {
     pub taken: Vec<u8>,
     mode: Mode,
     pub calls: u32,
     flushes: u32,
-    /// How much it had at the last flush.
+    /// The bytes that it had at the last flush.
     flushed: usize,
 }
 
@@ -144,17 +144,17 @@ impl Writer {
         self.mode.has_come(self.calls)
     }
 
-    /// Whether its fault was its last call.
+    /// Whether the failing call was the last one.
     pub fn is_left_in_time(&self) -> bool {
         self.calls == self.mode.at
     }
 
-    /// Whether it was flushed so often, once at its end or never.
+    /// Whether it was flushed `flushes` times, and has taken no byte since.
     pub fn is_flushed(&self, flushes: u32) -> bool {
         self.flushes == flushes && (flushes == 0 || self.flushed == self.taken.len())
     }
 
-    /// The most bytes of a further call.
+    /// Counts a call, and returns the most bytes that it passes.
     fn room(&mut self) -> io::Result<usize> {
         self.calls = self.calls.saturating_add(1);
         self.mode.room(self.calls)

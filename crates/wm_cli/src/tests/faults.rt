@@ -1,5 +1,4 @@
-//! Calls whose reader or writer fails: at its first call, its second, .. to the last one that it gets where
-//! it does not fail.
+//! Runs in which the reader or the writer fails, once for each call that it gets in a run without a fault.
 
 use super::ends::{BROKEN, Fault, INTERRUPTED, Mode, Reader, Writer};
 use std::alloc::Global;
@@ -13,20 +12,20 @@ use wm_syntax::io::output::Output;
 use wm_write::encode::{WriteFault, encode};
 use wm_write::print::print;
 
-/// What is called.
+/// The function under test.
 #[derive(Clone, Copy)]
 pub enum Call {
-    /// `run`.
+    /// `run` with this action.
     Run(Action),
     /// `validate_from`.
     Validate,
-    /// `load_from`, and then `encode`.
+    /// `load_from`, then `encode`.
     Encode,
-    /// `load_from`, and then `print`.
+    /// `load_from`, then `print`.
     Print,
 }
 
-/// What takes a binary.
+/// The functions that take a binary.
 const OF_BINARIES: [Call; 7] = [
     Call::Run(Action::Check),
     Call::Run(Action::Stats),
@@ -37,11 +36,11 @@ const OF_BINARIES: [Call; 7] = [
     Call::Print,
 ];
 
-/// What takes a text.
+/// The functions that take a text.
 const OF_TEXTS: [Call; 1] = [Call::Run(Action::Build)];
 
 impl Call {
-    /// How often the writer is flushed, if it does not fail.
+    /// The number of flushes of a writer that does not fail.
     fn flushes(self) -> u32 {
         match self {
             Call::Run(_) => 1,
@@ -50,7 +49,7 @@ impl Call {
     }
 }
 
-/// A call with its input. A line says by which profile, limit, policy and words.
+/// A call with its input. The line has the profile, the limit, the policy and the spellings.
 #[derive(Clone, Copy)]
 pub struct Task<'a> {
     pub alloc: Global,
@@ -60,7 +59,7 @@ pub struct Task<'a> {
 }
 
 impl<'a> Task<'a> {
-    /// What a line says, done with this input.
+    /// Returns the task of `run` with the action of this line.
     pub fn of_line(alloc: Global, line: &'a Line, input: &'a [u8]) -> Self {
         Task {
             alloc,
@@ -71,17 +70,17 @@ impl<'a> Task<'a> {
     }
 }
 
-/// Which end fails.
+/// The end that fails.
 #[derive(Clone, Copy)]
 pub enum End {
     Reader,
     Writer,
 }
 
-/// The most bytes of a call, and what the call does that fails.
+/// The most bytes of a call, and how the failing call fails.
 type Way = (usize, Fault);
 
-/// A reader that gives nothing has ended.
+/// `Nothing` is missing: a reader that gives no byte is at its end.
 const READERS: [Way; 4] = [
     (usize::MAX, BROKEN),
     (usize::MAX, INTERRUPTED),
@@ -98,13 +97,13 @@ const WRITERS: [Way; 6] = [
     (1, Fault::Nothing),
 ];
 
-/// What a call answers.
+/// The answer of a call.
 #[derive(Clone, Copy)]
 pub struct Answer {
     pub status: Status,
-    /// The refusal, which `run` writes and the library answers.
+    /// The refusal that the library returned. `run` writes it instead.
     refusal: Option<Refusal>,
-    /// How many bytes `encode` says that it wrote.
+    /// The number of bytes that `encode` claims to have written.
     written: Option<u64>,
 }
 
@@ -117,7 +116,7 @@ impl Answer {
         }
     }
 
-    /// Of a validator or a loader.
+    /// Returns the answer for a fault of `validate_from` or `load_from`.
     fn of_fault(fault: FromFault) -> Self {
         match fault {
             FromFault::Refused(refusal) => Answer {
@@ -129,7 +128,7 @@ impl Answer {
         }
     }
 
-    /// Of the encoder.
+    /// Returns the answer for the length that `encode` gave.
     fn of_length(status: Status, length: u64) -> Self {
         Answer {
             status,
@@ -138,7 +137,7 @@ impl Answer {
         }
     }
 
-    /// Whether as much was written as is said.
+    /// Whether the writer has as many bytes as `encode` claims.
     fn is_length_of(&self, writer: &Writer) -> bool {
         match self.written {
             Some(written) => written == writer.taken.len() as u64,
@@ -147,10 +146,9 @@ impl Answer {
     }
 }
 
-/// What a call answered, and what became of the reader and the writer.
+/// The answer of a call, with the reader and the writer after it.
 pub type Run<'a> = (Answer, Reader<'a>, Writer);
 
-/// Calls `run`.
 fn follow_run<'a>(task: &Task<'a>, action: Action, reading: Mode, writing: Mode) -> Run<'a> {
     let line = task.line;
     let mut source = Input::new(Reader::new(task.input, reading));
@@ -168,7 +166,6 @@ fn follow_run<'a>(task: &Task<'a>, action: Action, reading: Mode, writing: Mode)
     (Answer::new(status), source.into_inner(), dest.into_inner())
 }
 
-/// Calls `validate_from`.
 fn validate<'a>(task: &Task<'a>, reading: Mode) -> (Answer, Reader<'a>) {
     let line = task.line;
     let mut source = Input::new(Reader::new(task.input, reading));
@@ -186,7 +183,6 @@ fn validate<'a>(task: &Task<'a>, reading: Mode) -> (Answer, Reader<'a>) {
     (answer, source.into_inner())
 }
 
-/// Calls `load_from`.
 fn load<'a>(task: &Task<'a>, reading: Mode) -> (Result<Checked, FromFault>, Reader<'a>) {
     let line = task.line;
     let mut source = Input::new(Reader::new(task.input, reading));
@@ -200,7 +196,6 @@ fn load<'a>(task: &Task<'a>, reading: Mode) -> (Result<Checked, FromFault>, Read
     (loaded, source.into_inner())
 }
 
-/// Calls `encode`.
 fn write_binary(alloc: Global, checked: &Checked, writing: Mode) -> (Answer, Writer) {
     let mut dest = Output::new(Writer::new(alloc, writing));
     let answer = match encode(checked.module(), &mut dest) {
@@ -211,7 +206,6 @@ fn write_binary(alloc: Global, checked: &Checked, writing: Mode) -> (Answer, Wri
     (answer, dest.into_inner())
 }
 
-/// Calls `print`.
 fn write_text(alloc: Global, checked: &Checked, writing: Mode) -> (Answer, Writer) {
     let mut dest = Output::new(Writer::new(alloc, writing));
     let status = match print(checked, &mut dest) {
@@ -221,7 +215,7 @@ fn write_text(alloc: Global, checked: &Checked, writing: Mode) -> (Answer, Write
     (Answer::new(status), dest.into_inner())
 }
 
-/// Calls `load_from`, and then what writes the module.
+/// Calls `load_from`, and then `encode` or `print`.
 fn follow_load<'a>(task: &Task<'a>, reading: Mode, writing: Mode) -> Run<'a> {
     let (loaded, reader) = load(task, reading);
     let (answer, writer) = match (loaded, task.call) {
@@ -232,7 +226,7 @@ fn follow_load<'a>(task: &Task<'a>, reading: Mode, writing: Mode) -> Run<'a> {
     (answer, reader, writer)
 }
 
-/// Calls what is to be called, with an input that is read and an output that is written in these ways.
+/// Makes the call of a task, with a reader and a writer in these modes.
 pub fn follow<'a>(task: &Task<'a>, reading: Mode, writing: Mode) -> Run<'a> {
     match task.call {
         Call::Run(action) => follow_run(task, action, reading, writing),
@@ -244,7 +238,7 @@ pub fn follow<'a>(task: &Task<'a>, reading: Mode, writing: Mode) -> Run<'a> {
     }
 }
 
-/// The same where this end passes so much a call and may fail.
+/// Makes the call of a task, with one end in this mode and the other without limit or fault.
 pub fn follow_failing<'a>(task: &Task<'a>, end: End, failing: Mode) -> Run<'a> {
     let whole = Mode::by(usize::MAX);
     match end {
@@ -253,7 +247,7 @@ pub fn follow_failing<'a>(task: &Task<'a>, end: End, failing: Mode) -> Run<'a> {
     }
 }
 
-/// The byte of the input that settled its refusal, where it was refused.
+/// Returns the offset of the refusal of the input, or `None` if it was not refused.
 fn settled((answer, _, writer): &Run) -> Option<usize> {
     if let Some(refusal) = answer.refusal {
         return Some(refusal.at as usize);
@@ -263,13 +257,13 @@ fn settled((answer, _, writer): &Run) -> Option<usize> {
     place.parse::<usize>().ok()
 }
 
-/// Whether a run ended as it must whose reader has failed: by `Io`, with nothing written.
+/// Whether a run whose reader failed ended as it must: with `Io`, and nothing written.
 fn is_reader_told((answer, reader, writer): &Run) -> bool {
     answer.status == Status::Io && reader.is_left_in_time(None) && writer.calls == 0
 }
 
-/// Whether a run ended as it must whose writer has failed: by `Io`, with a beginning written. `plain` is the
-/// run that meets no fault.
+/// Whether a run whose writer failed ended as it must: with `Io`, and a prefix written. `plain` is the run without a
+/// fault.
 fn is_writer_told((answer, reader, writer): &Run, plain: &Run) -> bool {
     answer.status == Status::Io
         && answer.is_length_of(writer)
@@ -278,7 +272,7 @@ fn is_writer_told((answer, reader, writer): &Run, plain: &Run) -> bool {
         && plain.2.taken.starts_with(&writer.taken)
 }
 
-/// Whether a run that met no fault ended as `plain`. The writer was flushed so often.
+/// Whether a run without a fault ended as `plain`, with this number of flushes.
 fn is_same((answer, reader, writer): &Run, plain: &Run, flushes: u32) -> bool {
     answer.status == plain.0.status
         && answer.refusal == plain.0.refusal
@@ -288,8 +282,8 @@ fn is_same((answer, reader, writer): &Run, plain: &Run, flushes: u32) -> bool {
         && writer.taken.as_slice() == plain.2.taken.as_slice()
 }
 
-/// Whether each run ends as it must where an end fails at its first call, its second, .. Nothing is read
-/// after a refusal, and no end is called again after its fault.
+/// Whether the run ends as it must for each of the first `calls` calls at which the end may fail. Nothing is read after
+/// a refusal, and no end is called again after its fault.
 fn are_told(task: &Task, plain: &Run, end: End, (most, fault): Way, calls: u32) -> bool {
     for at in 1..=calls {
         let run = follow_failing(task, end, Mode { most, fault, at });
@@ -305,8 +299,8 @@ fn are_told(task: &Task, plain: &Run, end: End, (most, fault): Way, calls: u32) 
     true
 }
 
-/// In how many runs an end fails in this way: as often as it is called where it does not fail. None where a
-/// run ends otherwise than it must.
+/// Returns the number of runs in which an end fails in this way: one for each call that it gets without a fault.
+/// Returns `None` if a run ends wrongly.
 fn count_way(task: &Task, plain: &Run, end: End, way: Way) -> Option<u32> {
     let unfailing = follow_failing(task, end, Mode::by(way.0));
     let calls = match end {
@@ -318,7 +312,7 @@ fn count_way(task: &Task, plain: &Run, end: End, way: Way) -> Option<u32> {
     is_well.then_some(calls)
 }
 
-/// The same in all of these ways.
+/// Returns the number of runs in which an end fails in one of these ways, or `None` if a run ends wrongly.
 fn count_ways(task: &Task, plain: &Run, end: End, ways: &[Way]) -> Option<u32> {
     let mut count = 0u32;
     for way in ways {
@@ -327,14 +321,14 @@ fn count_ways(task: &Task, plain: &Run, end: End, ways: &[Way]) -> Option<u32> {
     Some(count)
 }
 
-/// How many readers and writers have failed.
+/// The number of readers and writers that failed.
 #[derive(Clone, Copy)]
 pub struct Faults {
     pub readers: u32,
     pub writers: u32,
 }
 
-/// Whether a call ends as it must where its reader or its writer fails at any of its calls.
+/// Whether a task ends as it must for each call at which its reader or its writer may fail.
 fn is_call_right(task: &Task, faults: &mut Faults) -> bool {
     let whole = Mode::by(usize::MAX);
     let plain = follow(task, whole, whole);
@@ -348,7 +342,7 @@ fn is_call_right(task: &Task, faults: &mut Faults) -> bool {
     true
 }
 
-/// Whether each call so ends that takes such an input, a text where the line's action is `build`.
+/// Whether each function that takes this input ends as it must. The input is a text if the line's action is `build`.
 pub fn are_faults_told(alloc: Global, line: &Line, input: &[u8], faults: &mut Faults) -> bool {
     let calls: &[Call] = match line.action {
         Action::Build => &OF_TEXTS,

@@ -1,7 +1,7 @@
-//! Inputs whose readers and writers fail.
+//! Inputs for readers and writers that fail.
 
-/// The smallest input and the smallest text of each refusal, and then others, valid or refused before their
-/// last byte too. `rows` says what a row may be.
+/// The smallest input and the smallest text of each refusal, then others. Some are valid, and some are refused before
+/// their last byte. `rows` describes the rows.
 pub const INPUTS: &str = r#"wmod check < 01
 wmod check < 00 61 73 6D 02
 wmod check --limit 8 < H 00

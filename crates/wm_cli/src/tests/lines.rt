@@ -1,4 +1,4 @@
-//! Tests of the words of the command line.
+//! Tests of the command line.
 
 use super::rows::play;
 use std::alloc::Global;
@@ -7,7 +7,7 @@ use std::test::Fail;
 use wm_command::arguments::LineFault;
 use wm_command::line::line;
 
-/// What words are read as, and what is said of wrong ones.
+/// Rows of arguments with the line that they give, or with the message for the wrong one.
 const LINES: &str = r#"read wmod check = Check One 4294967295 None None None Standard None None
 read wmod check --limit 007 - = Check One 7 None None None Standard Some("-") None
 read wmod show = Show One 4294967295 None None None Standard None None
@@ -127,7 +127,7 @@ fn lines(rt: HostRuntime) -> Result<(), Fail> {
     play(&rt, rt.alloc(), LINES)
 }
 
-/// What the parser says of these words.
+/// Expects this text from `clap` for these arguments.
 fn expect_said(rt: &impl Abort, alloc: Global, words: &[&str], wanted: &str) -> Result<(), Fail> {
     let Err(LineFault::Parser(error)) = line(alloc, words) else {
         assert!(rt; false, "no fault of the parser");
@@ -145,7 +145,7 @@ fn help_and_fault_texts(rt: HostRuntime) -> Result<(), Fail> {
     expect_said(&rt, rt.alloc(), &["wmod"], MISSING)
 }
 
-/// The text of a fault, and its exit status.
+/// Expects this text of a fault and its exit status.
 fn expect_fault(
     rt: &impl Abort,
     alloc: Global,

@@ -1,21 +1,20 @@
-//! Rows of calls with their answers, a line each.
+//! Rows: lines with a call and its answer.
 //!
 //! ```text
 //! read WORDS = ACTION PROFILE LIMIT FUNCTIONS LOCALS DEPTH SPELLINGS FILE PATH, or the kind of the fault and its exit status
-//! wrong WORDS = what is said of the first wrong word
-//! wmod WORDS < INPUT = the exit status, and what is written
-//! in N WORDS < INPUT = the same where the reader gives N bytes, one a call, and then fails
-//! out N WORDS < INPUT = the same where the writer takes N bytes, one a call, and then fails, at the flush if that is next
-//! labels TEXT = the labels that stand first, three at most, or the fault; and how many bytes are left
-//! earlier N TEXT = the first fault before the last N bytes, where two locals may stand, or none
+//! wrong WORDS = the message for the first wrong word
+//! wmod WORDS < INPUT = the exit status, and the output
+//! in N WORDS < INPUT = both, if the reader gives N bytes, one a call, and then fails
+//! out N WORDS < INPUT = both, if the writer takes N bytes, one a call, and then fails, at the flush if that is next
+//! labels TEXT = the labels at the front, three at most, or the fault; and the number of bytes left
+//! earlier N TEXT = the first fault before the last N bytes if two locals are allowed, or none
 //! ```
 //!
-//! The word `""` is the empty one. INPUT is a text for `build`. Else it is bytes in hexadecimal digits, with
-//! H for the header of a module. What is done with an input under a profile is done under one that
-//! has more too.
+//! The word `""` is the empty one. INPUT is a text for `build`. Otherwise it is bytes in hexadecimal digits, with
+//! H for the header of a module. A row with exit status 0 is also run under a larger profile, with the same answer.
 //!
-//! Rows of inputs whose reader or writer fails have no answer: `wmod WORDS < INPUT`. There `build` stands for
-//! itself, and `check` for all that takes a binary. A text may be written as `bytes` and its bytes.
+//! Rows for readers and writers that fail have no answer: `wmod WORDS < INPUT`. There `build` means that action, and
+//! `check` all functions that take a binary. A text may be written as `bytes` and its bytes.
 
 use super::HEADER;
 use super::ends::{BROKEN, Mode};
@@ -33,7 +32,7 @@ use wm_rules::Policy;
 use wm_syntax::profile::Profile;
 use wm_tokens::faults::TextFault;
 
-/// The words of a command.
+/// Splits a command into its words.
 fn words_of(alloc: Global, command: &str) -> Result<Vec<&str>, Fail> {
     Ok(
         command
@@ -43,7 +42,7 @@ fn words_of(alloc: Global, command: &str) -> Result<Vec<&str>, Fail> {
     )
 }
 
-/// The bytes of words in hexadecimal digits.
+/// Parses bytes in hexadecimal digits, with H for the header.
 fn bytes_of(alloc: Global, words: &str) -> Result<Vec<u8>, Fail> {
     let mut bytes = Vec::new(alloc);
     for word in words.split_whitespace() {
@@ -84,7 +83,7 @@ fn tell_fault(alloc: Global, fault: &LineFault) -> Result<String, Fail> {
     Ok(format!(in alloc; "{kind} {}", fault.code())?)
 }
 
-/// What the words of a command are read as.
+/// Returns the line or the fault of a command.
 fn read(alloc: Global, command: &str) -> Result<String, Fail> {
     match line(alloc, words_of(alloc, command)?.as_slice()) {
         Ok(line) => tell_line(alloc, &line),
@@ -92,7 +91,7 @@ fn read(alloc: Global, command: &str) -> Result<String, Fail> {
     }
 }
 
-/// What is said of the first wrong word of a command.
+/// Returns the message for the first wrong word of a command.
 fn wrong(alloc: Global, command: &str) -> Result<String, Fail> {
     match wrong_word(alloc, words_of(alloc, command)?.as_slice())? {
         Some(word) => Ok(format!(in alloc; "{word}")?),
@@ -100,8 +99,8 @@ fn wrong(alloc: Global, command: &str) -> Result<String, Fail> {
     }
 }
 
-/// The exit status and what was written, where no more was asked for at once than a piece, and all was
-/// flushed once.
+/// Returns the exit status and the output, or a message if a read asked for more than 4,096 bytes or the output was
+/// not flushed once at its end.
 fn tell(alloc: Global, line: &Line, input: &[u8], most: usize) -> Result<String, Fail> {
     let task = Task::of_line(alloc, line, input);
     let (answer, reader, writer) = follow(&task, Mode::by(most), Mode::by(usize::MAX));
@@ -118,7 +117,7 @@ fn tell(alloc: Global, line: &Line, input: &[u8], most: usize) -> Result<String,
     )?)
 }
 
-/// What a line writes for an input, which is the same in pieces of any size.
+/// Returns the exit status and the output of a line, or a message if they differ for some size of the pieces.
 fn obey_line(alloc: Global, line: &Line, input: &[u8]) -> Result<String, Fail> {
     let told = tell(alloc, line, input, 4096)?;
     let sizes = if input.len() < 200 { input.len() } else { 7 };
@@ -130,7 +129,7 @@ fn obey_line(alloc: Global, line: &Line, input: &[u8]) -> Result<String, Fail> {
     Ok(told)
 }
 
-/// Whether what is done by this line is done under a profile that has more too.
+/// Whether a line with exit status 0 has the same output under a larger profile.
 fn is_same_under_more(alloc: Global, line: &Line, input: &[u8], told: &str) -> Result<bool, Fail> {
     if !told.starts_with("0 ") {
         return Ok(true);
@@ -150,7 +149,7 @@ fn is_same_under_more(alloc: Global, line: &Line, input: &[u8], told: &str) -> R
     Ok(tell(alloc, &more, input, 4096)?.as_str() == told)
 }
 
-/// What a command writes for an input.
+/// Returns the exit status and the output of a command for an input, or the fault of the command.
 pub fn obey(alloc: Global, command: &str, input: &[u8]) -> Result<String, Fail> {
     let line = match line(alloc, words_of(alloc, command)?.as_slice()) {
         Ok(line) => line,
@@ -163,7 +162,7 @@ pub fn obey(alloc: Global, command: &str, input: &[u8]) -> Result<String, Fail> 
     Ok(told)
 }
 
-/// What a command that is done writes for an input.
+/// Returns the output of a command for an input. Fails if its status is not `Done`.
 fn written(alloc: Global, command: &str, input: &[u8]) -> Result<Vec<u8>, Fail> {
     let line = line(alloc, words_of(alloc, command)?.as_slice())?;
     let whole = Mode::by(usize::MAX);
@@ -175,14 +174,14 @@ fn written(alloc: Global, command: &str, input: &[u8]) -> Result<Vec<u8>, Fail> 
     }
 }
 
-/// Whether a module, shown and then built, gives its canonical binary.
+/// Whether `build` makes the canonical binary of a module from the text that `show` writes of it.
 pub fn is_given_back(alloc: Global, module: &[u8]) -> Result<bool, Fail> {
     let text = written(alloc, "wmod show", module)?;
     let built = written(alloc, "wmod build", &text)?;
     Ok(built.as_slice() == written(alloc, "wmod canon", module)?.as_slice())
 }
 
-/// The command before a `<`, and the input behind it.
+/// Splits a call at `<` into the command and the input.
 fn parts_of(alloc: Global, call: &str) -> Result<(&str, Vec<u8>), Fail> {
     let Some((command, input)) = call.split_once(" <") else {
         return Err(Fail::new("no input"));
@@ -196,13 +195,14 @@ fn parts_of(alloc: Global, call: &str) -> Result<(&str, Vec<u8>), Fail> {
     Ok((command, bytes))
 }
 
-/// What a command writes for the input behind its `<`.
+/// Returns the exit status and the output of a call.
 fn obey_row(alloc: Global, call: &str) -> Result<String, Fail> {
     let (command, input) = parts_of(alloc, call)?;
     obey(alloc, command, &input)
 }
 
-/// What a command writes where the reader, or the writer, passes so many bytes, one a call, and then fails.
+/// Returns the exit status and the output of a call if this end passes the given number of bytes, one a call, and then
+/// fails.
 fn cut_row(alloc: Global, end: End, row: &str) -> Result<String, Fail> {
     let Some((passed, call)) = row.split_once(' ') else {
         return Err(Fail::new("no command"));
@@ -226,7 +226,7 @@ fn tell_text_fault(alloc: Global, fault: TextFault) -> Result<String, Fail> {
     Ok(format!(in alloc; "{:?}, {} left", fault.why, fault.left)?)
 }
 
-/// The labels of a br_table outside of all blocks.
+/// Reads at most three labels of a br_table outside of all blocks.
 fn three_labels(alloc: Global, text: &str) -> Result<String, Fail> {
     let blocks = OpenBlocks::new(alloc);
     match labels(alloc, &blocks, 3, text.as_bytes()) {
@@ -235,7 +235,7 @@ fn three_labels(alloc: Global, text: &str) -> Result<String, Fail> {
     }
 }
 
-/// The first fault of parameters and locals before the last bytes, where two locals may stand.
+/// Returns the first fault of parameters and locals before the last bytes, with two locals allowed.
 fn two_locals(alloc: Global, row: &str) -> Result<String, Fail> {
     let Some((left, text)) = row.split_once(' ') else {
         return Err(Fail::new("no text"));
@@ -246,7 +246,7 @@ fn two_locals(alloc: Global, row: &str) -> Result<String, Fail> {
     }
 }
 
-/// The answer to a call.
+/// Returns the answer to a call.
 fn answer(alloc: Global, call: &str) -> Result<String, Fail> {
     match call.split_once(' ') {
         Some(("read", command)) => read(alloc, command),
@@ -260,7 +260,7 @@ fn answer(alloc: Global, call: &str) -> Result<String, Fail> {
     }
 }
 
-/// Each line of a script has the answer to its call.
+/// Expects that each line of a script has the answer to its call.
 pub fn play(rt: &impl Abort, alloc: Global, script: &str) -> Result<(), Fail> {
     assert!(rt; !script.is_empty());
     for row in script.lines() {
@@ -273,14 +273,14 @@ pub fn play(rt: &impl Abort, alloc: Global, script: &str) -> Result<(), Fail> {
     Ok(())
 }
 
-/// Whether each call that takes a row's input ends as it must where its reader or its writer fails.
+/// Whether each function that takes a row's input ends as it must if its reader or its writer fails.
 fn is_row_told(alloc: Global, row: &str, faults: &mut Faults) -> Result<bool, Fail> {
     let (command, input) = parts_of(alloc, row)?;
     let line = line(alloc, words_of(alloc, command)?.as_slice())?;
     Ok(are_faults_told(alloc, &line, &input, faults))
 }
 
-/// The reader and the writer fail at the inputs of these rows. Tells how many did.
+/// Runs the inputs of these rows with readers and writers that fail. Returns how many failed.
 pub fn fail_ends(rt: &impl Abort, alloc: Global, rows: &str) -> Result<String, Fail> {
     let mut faults = Faults {
         readers: 0,

@@ -1,5 +1,5 @@
-//! Tests of `wm_tokens`, `wm_bodies` and `wm_read`: what is printed of a refused text, and which fault is told, where no
-//! row of `wm_rows` shows it; and their laws, with the one of `wm_command`.
+//! Tests of `wm_tokens`, `wm_bodies` and `wm_read` where no row of `wm_rows` covers them: the line of a refused text,
+//! and the name of its fault. Also calls of their laws, and of the one of `wm_command`.
 
 use super::rows::play;
 use std::alloc::Global;
@@ -11,8 +11,8 @@ use wm_read::faults::{TextRefusal, TextWhy};
 use wm_read::laws;
 use wm_tokens::laws as token_laws;
 
-/// A refusal with a short text, and the two that are in no row: a text needs gigabytes for the first, and the
-/// second is never printed.
+/// A refusal with a short text, and the two that are in no row: `TooManyLocals` needs a text of gigabytes, and the
+/// command never prints `Memory`.
 const REFUSALS: [(TextWhy, &str); 3] = [
     (
         TextWhy::BadToken,
@@ -28,7 +28,7 @@ const REFUSALS: [(TextWhy, &str); 3] = [
     ),
 ];
 
-/// Labels and locals past the most that may stand, which are 2^32 in a text: gigabytes.
+/// Labels and locals beyond a small limit. In a text the limit is 2^32, which takes gigabytes.
 const TOO_MANY: &str = r#"labels 0 1 2 3 4) = Expected, 4 left
 labels 0 1 2 $a) = Expected, 3 left
 labels 0 1 $a 3) = UnknownId, 5 left
