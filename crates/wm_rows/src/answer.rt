@@ -1,4 +1,4 @@
-//! Answers to rows.
+//! Computes the answer to a row.
 
 use crate::changes::answer_changes;
 use crate::pieces::{Verdict, is_answered, judge, spread};
@@ -9,10 +9,10 @@ use std::alloc::Global;
 use std::io;
 use wm_rules::Summary;
 
-/// A longer binary that a text gives is told by its length, and is not cut.
+/// The length from which on the answer to a text gives only the length of its binary, and the binary is not cut.
 const LONGEST: usize = 2048;
 
-/// The figures of a module's bodies.
+/// Returns the figures of a module's bodies.
 fn figures(alloc: Global, summary: &Summary) -> io::Result<String> {
     let Summary {
         functions,
@@ -26,7 +26,7 @@ fn figures(alloc: Global, summary: &Summary) -> io::Result<String> {
     )?)
 }
 
-/// The answer to a row whose binary is valid.
+/// Returns the answer to a row with a valid binary.
 fn accept(
     alloc: Global,
     row: &Row,
@@ -42,8 +42,8 @@ fn accept(
     }
 }
 
-/// Whether the answer is the same in two pieces wherever the binary is cut, and with an
-/// empty piece between them.
+/// Whether the answer is the same in two pieces, wherever the binary is cut, with and without an empty piece between
+/// them.
 fn is_same_in_two(
     alloc: Global,
     row: &Row,
@@ -63,7 +63,7 @@ fn is_same_in_two(
     Ok(true)
 }
 
-/// Whether the answer is the same in pieces of so many bytes.
+/// Whether the answer is the same in pieces of `size` bytes.
 fn is_same_by(
     alloc: Global,
     row: &Row,
@@ -75,8 +75,8 @@ fn is_same_by(
     is_answered(alloc, row, &pieces, whole)
 }
 
-/// Whether the answer is the same in pieces of one byte, with empty pieces between them
-/// too, and of seven bytes.
+/// Whether the answer is the same in pieces of one byte, with and without empty pieces between them, and of seven
+/// bytes.
 fn is_same_in_chunks(alloc: Global, row: &Row, binary: &[u8], whole: &Verdict) -> io::Result<bool> {
     Ok(
         is_same_by(alloc, row, binary, whole, 1)?
@@ -85,7 +85,7 @@ fn is_same_in_chunks(alloc: Global, row: &Row, binary: &[u8], whole: &Verdict) -
     )
 }
 
-/// The answer to a row with a binary that is so judged.
+/// Returns the answer to a row with a binary that has this verdict.
 fn answer_judged(alloc: Global, row: &Row, binary: &[u8], whole: &Verdict) -> io::Result<String> {
     match whole {
         Verdict::Valid(summary, canonical) => {
@@ -99,7 +99,7 @@ fn answer_judged(alloc: Global, row: &Row, binary: &[u8], whole: &Verdict) -> io
     }
 }
 
-/// The answer to a row with this binary, which is the same however the binary is cut.
+/// Returns the answer to a row with this binary, or a message if the answer depends on the pieces.
 fn answer_binary(alloc: Global, row: &Row, binary: &[u8], tally: &mut Tally) -> io::Result<String> {
     let Some(whole) = judge(alloc, row, &[binary])? else {
         return say(alloc, "the validator and the loader differ");
@@ -113,7 +113,8 @@ fn answer_binary(alloc: Global, row: &Row, binary: &[u8], tally: &mut Tally) -> 
     answer_judged(alloc, row, binary, &whole)
 }
 
-/// The answer to a row with a text: what it gives, which is its own canonical binary, or the length of that.
+/// Returns the answer to a row with a text: its refusal, its canonical binary, or the length of a long one. Checks that
+/// the binary is its own canonical binary.
 fn answer_text(alloc: Global, row: &Row, tally: &mut Tally) -> io::Result<String> {
     let binary = match build(alloc, row, row.spellings, &row.input)? {
         Built::Binary(binary) => binary,
@@ -130,7 +131,7 @@ fn answer_text(alloc: Global, row: &Row, tally: &mut Tally) -> io::Result<String
     }
 }
 
-/// The answer where the byte at a place is so much more, past 255 from 0 on.
+/// Returns the answer to the row's binary with `more` added to the byte at `place`, modulo 256.
 fn answer_changed(
     alloc: Global,
     row: &Row,
@@ -146,7 +147,7 @@ fn answer_changed(
     answer_binary(alloc, row, &binary, tally)
 }
 
-/// What is added to the byte at a place where the answer is another than this one.
+/// Returns a number that, added to the byte at `place`, gives another answer than this one.
 fn other_answer(
     alloc: Global,
     row: &Row,
@@ -162,7 +163,7 @@ fn other_answer(
     Ok(None)
 }
 
-/// The answer to all inputs with another byte at a place.
+/// Returns the answer to all inputs with another byte at `place`, or a message if their answers differ.
 fn answer_change(alloc: Global, row: &Row, place: usize, tally: &mut Tally) -> io::Result<String> {
     let answer = answer_changed(alloc, row, place, 1, tally)?;
     match other_answer(alloc, row, place, &answer, tally)? {
@@ -171,7 +172,7 @@ fn answer_change(alloc: Global, row: &Row, place: usize, tally: &mut Tally) -> i
     }
 }
 
-/// The answer to a row. No clause: `stdout` has what is right.
+/// Returns the answer to a row. It has no contract: `stdout` has the right answers.
 pub fn answer(alloc: Global, row: &Row, tally: &mut Tally) -> io::Result<String> {
     count(&mut tally.rows);
     match row.action {

@@ -1,4 +1,4 @@
-//! All binaries that differ from a row's in one byte.
+//! The answer to all binaries that differ from a row's in one byte.
 
 use crate::pieces::{Verdict, is_answered, judge, spread};
 use crate::row::Row;
@@ -7,8 +7,8 @@ use crate::text::is_given_back;
 use std::alloc::Global;
 use std::io;
 
-/// Whether the answers to a binary byte by byte and in two pieces are that to it whole. Empty pieces lie
-/// between the others, and `place` is where the two are cut.
+/// Whether a binary has the verdict `whole` also byte by byte, and in two pieces cut at `place`. There are empty pieces
+/// between the others.
 fn is_same_in_pieces(
     alloc: Global,
     row: &Row,
@@ -23,7 +23,8 @@ fn is_same_in_pieces(
     )
 }
 
-/// Whether a binary is valid, unless its answers differ or it is valid and not given back.
+/// Returns whether a binary is valid, or `None` if a test of it fails: the pieces change the answer, or the module does
+/// not survive its own text.
 fn is_valid(alloc: Global, row: &Row, binary: &[u8], place: usize) -> io::Result<Option<bool>> {
     let Some(whole) = judge(alloc, row, &[binary])? else {
         return Ok(None);
@@ -40,7 +41,7 @@ fn is_valid(alloc: Global, row: &Row, binary: &[u8], place: usize) -> io::Result
     }
 }
 
-/// Counts the 255 binaries with another byte than this one at a place. Whether all is well with them.
+/// Tests the 255 binaries with another byte than `known` at `place`, and counts them. Returns whether all tests pass.
 fn are_well(
     alloc: Global,
     row: &Row,
@@ -50,7 +51,7 @@ fn are_well(
 ) -> io::Result<bool> {
     for more in 1..=255 {
         put(binary, place, known.wrapping_add(more));
-        // so each place is cut with some change at each place of a shorter binary
+        // over the 255 changes, a binary of at most 255 bytes is cut at each of its offsets
         let cut = usize::from(more) % binary.len().max(1);
         let Some(is_valid) = is_valid(alloc, row, binary, cut)? else {
             return Ok(false);
@@ -71,7 +72,7 @@ fn put(binary: &mut Vec<u8>, place: usize, byte: u8) {
     }
 }
 
-/// The first place with a change at which not all is well.
+/// Returns the first place with a change for which a test fails.
 fn first_fault(alloc: Global, row: &Row, tally: &mut Tally) -> io::Result<Option<usize>> {
     let mut binary = row.input.clone()?;
     for (place, known) in row.input.iter().enumerate() {
@@ -82,8 +83,8 @@ fn first_fault(alloc: Global, row: &Row, tally: &mut Tally) -> io::Result<Option
     Ok(None)
 }
 
-/// How many binaries differ from a row's in one byte, and how many of them are valid. No clause: `stdout` has
-/// what is right.
+/// Returns how many binaries differ from a row's in one byte, and how many of them are valid. It has no contract:
+/// `stdout` has the right answers.
 pub fn answer_changes(alloc: Global, row: &Row, tally: &mut Tally) -> io::Result<String> {
     let before = *tally;
     if let Some(place) = first_fault(alloc, row, tally)? {

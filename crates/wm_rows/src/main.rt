@@ -1,9 +1,8 @@
-//! Answers rows of inputs. Each line of standard input is written with its answer behind ` = `; `src/row.rt`
-//! says what a line may be. A heading, which begins with `#`, and an empty line are written as they are. The
-//! last line says how much was run.
+//! Answers rows of inputs. Each line of standard input is written with its answer after ` = `. `src/row.rt`
+//! describes the lines. An empty line, and a heading that begins with `#`, are written as they are. The last line
+//! has the numbers of rows and runs.
 //!
-//! This is no part of `wmod`: `stdout` has the right answers to `stdin`, and what is printed is compared with
-//! it. So no function has a clause.
+//! This is no part of `wmod`. CI compares the output for `stdin` with `stdout`, so no function has a contract.
 #![tactic(auto)]
 
 mod answer;
@@ -29,7 +28,7 @@ fn print_line<R: Print + AllocGlobal>(rt: &R, line: &str, tally: &mut Tally) -> 
     println!(rt; "{line} = {answer}")
 }
 
-/// Writes how much was run.
+/// Writes the numbers of rows and runs.
 fn print_tally<R: Print>(rt: &R, tally: &Tally) -> io::Result<()> {
     let Tally {
         rows,

@@ -1,4 +1,4 @@
-//! A binary in pieces, given to a validator and to a loader.
+//! Feeds a binary in pieces to a validator and to a loader.
 
 use crate::row::Row;
 use crate::text::{canonical, out_of_memory};
@@ -8,7 +8,7 @@ use wm_decode::Refusal;
 use wm_rules::{Checked, Loader, Summary, Validator};
 use wm_syntax::why::Why;
 
-/// What a validator and a loader both answer.
+/// The answer that a validator and a loader both give.
 #[derive(Drop)]
 pub enum Verdict {
     /// The figures, and the canonical binary.
@@ -16,8 +16,8 @@ pub enum Verdict {
     Refused(Refusal),
 }
 
-/// A binary in pieces of one byte, with an empty piece behind each. No clause: it is of these rows alone, and
-/// other pieces would give other answers than those of `stdout` only where a cut is judged wrongly.
+/// Returns a binary in pieces of one byte, each followed by an empty piece. It has no contract: only these rows use it,
+/// and wrong pieces would change an answer in `stdout`.
 pub fn spread(alloc: Global, binary: &[u8]) -> Result<Vec<&[u8]>, AllocError> {
     let mut pieces = Vec::new(alloc);
     for piece in binary.chunks(1) {
@@ -27,19 +27,19 @@ pub fn spread(alloc: Global, binary: &[u8]) -> Result<Vec<&[u8]>, AllocError> {
     Ok(pieces)
 }
 
-/// Why pieces are not taken.
+/// Why a validator or a loader gives no module.
 #[derive(Clone, Copy)]
 enum Fault {
     Refused(Refusal),
-    /// A later call did not answer the first refusal again.
+    /// A later call did not return the first refusal again.
     Forgotten,
 }
 
-/// What was answered so far.
+/// The answers to the pieces so far.
 #[derive(Clone, Copy)]
 struct Answers {
     first: Option<Refusal>,
-    /// Whether each call after the first refusal has answered it again.
+    /// Whether each call after the first refusal has returned it again.
     is_kept: bool,
 }
 
@@ -51,7 +51,7 @@ impl Answers {
         }
     }
 
-    /// A further answer.
+    /// Records the answer to the next piece.
     fn take(&mut self, answer: Result<(), Refusal>) {
         match (self.first, answer) {
             (None, Ok(())) => {}
@@ -62,7 +62,7 @@ impl Answers {
     }
 }
 
-/// The answer at the end, which is that of the pieces where one was refused.
+/// Returns the answer at the end. Fails with `Forgotten` if it is not the first refusal of the pieces.
 fn end<T: Drop>(mut answers: Answers, last: Result<T, Refusal>) -> Result<T, Fault> {
     match last {
         Ok(value) => match answers.first {
@@ -80,7 +80,7 @@ fn end<T: Drop>(mut answers: Answers, last: Result<T, Refusal>) -> Result<T, Fau
     }
 }
 
-/// What a validator answers to pieces.
+/// Returns a validator's answer to pieces.
 fn validate(alloc: Global, row: &Row, pieces: &[&[u8]]) -> Result<Summary, Fault> {
     let mut validator = Validator::new(alloc, row.profile, u64::from(row.limit), row.policy);
     let mut answers = Answers::new();
@@ -90,7 +90,7 @@ fn validate(alloc: Global, row: &Row, pieces: &[&[u8]]) -> Result<Summary, Fault
     end(answers, validator.finish())
 }
 
-/// What a loader makes of pieces.
+/// Returns a loader's answer to pieces.
 fn load(alloc: Global, row: &Row, pieces: &[&[u8]]) -> Result<Checked, Fault> {
     let mut loader = Loader::new(alloc, row.profile, u64::from(row.limit), row.policy);
     let mut answers = Answers::new();
@@ -100,7 +100,7 @@ fn load(alloc: Global, row: &Row, pieces: &[&[u8]]) -> Result<Checked, Fault> {
     end(answers, loader.finish())
 }
 
-/// The canonical binary of what a loader makes of pieces.
+/// Returns the canonical binary of the module that a loader reads from pieces.
 fn rewrite(alloc: Global, row: &Row, pieces: &[&[u8]]) -> io::Result<Result<Vec<u8>, Fault>> {
     match load(alloc, row, pieces) {
         Ok(checked) => Ok(Ok(canonical(alloc, checked.module())?)),
@@ -113,7 +113,7 @@ fn is_memory<T>(answer: &Result<T, Fault>) -> bool {
     matches!(answer, Err(Fault::Refused(refusal)) if refusal.why == Why::Memory)
 }
 
-/// What a validator and a loader have answered; none where they differ, or where a refusal did not stay.
+/// Returns the common answer of a validator and a loader. `None` if they differ, or if one did not keep its refusal.
 fn both(judged: Result<Summary, Fault>, loaded: Result<Vec<u8>, Fault>) -> Option<Verdict> {
     match (judged, loaded) {
         (Ok(summary), Ok(binary)) => Some(Verdict::Valid(summary, binary)),
@@ -124,8 +124,8 @@ fn both(judged: Result<Summary, Fault>, loaded: Result<Vec<u8>, Fault>) -> Optio
     }
 }
 
-/// What a validator and a loader both answer to pieces; none where they differ, or where a refusal does not
-/// stay. No clause: the file `stdout` has what is right.
+/// Returns the common answer of a validator and a loader to pieces. `None` if they differ, or if one does not keep its
+/// refusal. It has no contract: `stdout` has the right answers.
 pub fn judge(alloc: Global, row: &Row, pieces: &[&[u8]]) -> io::Result<Option<Verdict>> {
     let judged = validate(alloc, row, pieces);
     let loaded = rewrite(alloc, row, pieces)?;
@@ -135,7 +135,7 @@ pub fn judge(alloc: Global, row: &Row, pieces: &[&[u8]]) -> io::Result<Option<Ve
     Ok(both(judged, loaded))
 }
 
-/// Whether pieces get this answer.
+/// Whether pieces get this verdict.
 pub fn is_answered(
     alloc: Global,
     row: &Row,

@@ -1,4 +1,4 @@
-//! Rows of inputs.
+//! Parses rows. A row is one of these lines:
 //!
 //! ```text
 //! ACTION [OPTIONS] BYTES
@@ -12,11 +12,11 @@
 //! ACTION is `check`, `stats`, `canon` or `show`. OPTIONS are those of `wmod` without their dashes, in
 //! this order: `profile 2` (or 3, or 4), `limit N`, `max-functions N`, `max-locals N`, `max-open N` and
 //! `old-words`.
-//! BYTES are words: `H` is the header of a module, and another one is a byte in two hexadecimal digits.
-//! In a TEXT `␊` stands for a line feed. PARTS are a text too, in which `3*a|b` stands for `aaab`.
-//! `read` stands in the place of `build` where the module of a text need not be valid.
-//! `change` stands for the 255 inputs with another byte at that place, and `changes` for those with
-//! another byte at any place.
+//! BYTES are words: `H` is the header of a module, and any other is a byte in two hexadecimal digits.
+//! In a TEXT, `␊` means a line feed. PARTS are a text too, in which `3*a|b` means `aaab`.
+//! `read` instead of `build` allows a text with an invalid module.
+//! `change` means the 255 inputs with another byte at that place, and `changes` those with another byte at
+//! any place.
 
 use std::alloc::Global;
 use std::io;
@@ -27,7 +27,7 @@ use wm_syntax::profile::Profile;
 
 pub const HEADER: [u8; 8] = *b"\0asm\x01\0\0\0";
 
-/// What is asked of an input.
+/// The action on an input, by its answer.
 #[derive(Clone, Copy)]
 pub enum Action {
     /// Whether it is valid.
@@ -38,17 +38,17 @@ pub enum Action {
     Canon,
     /// Its text.
     Show,
-    /// The canonical binary of what the input, a text, writes.
+    /// The canonical binary of the valid module that the input, a text, writes.
     Build,
-    /// The binary of what the input, a text, writes, be it valid or not.
+    /// The canonical binary of the module that the input, a text, writes, valid or not.
     Read,
-    /// Whether the inputs with another byte at this place are valid.
+    /// The common answer to the inputs with another byte at this place.
     Change(usize),
     /// How many of the inputs with one other byte are valid.
     Changes,
 }
 
-/// A row, read.
+/// A parsed row.
 #[derive(Drop)]
 pub struct Row {
     pub action: Action,
@@ -56,22 +56,22 @@ pub struct Row {
     /// The most bytes that a binary may have.
     pub limit: u32,
     pub policy: Policy,
-    /// The words that a text may have.
+    /// The keywords that a text may use.
     pub spellings: Spellings,
     pub input: Vec<u8>,
 }
 
-/// A line that is no row. It ends the program.
+/// The error for a line that is no row. It ends the program.
 fn no_row() -> io::Error {
     io::Error::from(ErrorKind::InvalidData)
 }
 
-/// The first word, and what stands behind it.
+/// Splits off the first word, and returns it and the rest.
 fn first_word(text: &str) -> (&str, &str) {
     text.split_once(' ').unwrap_or((text, ""))
 }
 
-/// A number, and what stands behind it.
+/// Parses a number, and returns it and the rest.
 fn number(text: &str) -> io::Result<(u32, &str)> {
     let (word, rest) = first_word(text);
     match word.parse::<u32>() {
@@ -80,7 +80,7 @@ fn number(text: &str) -> io::Result<(u32, &str)> {
     }
 }
 
-/// The action, and what stands behind it.
+/// Parses the action, and returns it and the rest.
 fn action_of(line: &str) -> io::Result<(Action, &str)> {
     let (word, rest) = first_word(line);
     match word {
@@ -99,7 +99,7 @@ fn action_of(line: &str) -> io::Result<(Action, &str)> {
     }
 }
 
-/// The profile, the first where none is named, and what stands behind it.
+/// Parses the profile, `One` if there is none, and returns it and the rest.
 fn profile(text: &str) -> (Profile, &str) {
     let Some(rest) = text.strip_prefix("profile ") else {
         return (Profile::One, text);
@@ -112,7 +112,7 @@ fn profile(text: &str) -> (Profile, &str) {
     }
 }
 
-/// The limit, that of `wmod` where none is named, and what stands behind it.
+/// Parses the limit, the default of `wmod` if there is none, and returns it and the rest.
 fn limit(text: &str) -> io::Result<(u32, &str)> {
     match text.strip_prefix("limit ") {
         Some(rest) => number(rest),
@@ -120,7 +120,7 @@ fn limit(text: &str) -> io::Result<(u32, &str)> {
     }
 }
 
-/// A limit of the policy, none where it is not named, and what stands behind it.
+/// Parses a limit of the policy, no limit if the option is missing, and returns it and the rest.
 fn most<'a>(option: &str, text: &'a str) -> io::Result<(Option<u32>, &'a str)> {
     let (word, rest) = first_word(text);
     if word == option {
@@ -131,7 +131,7 @@ fn most<'a>(option: &str, text: &'a str) -> io::Result<(Option<u32>, &'a str)> {
     }
 }
 
-/// The policy, and what stands behind it.
+/// Parses the policy, and returns it and the rest.
 fn policy(text: &str) -> io::Result<(Policy, &str)> {
     let (functions, rest) = most("max-functions", text)?;
     let (locals, rest) = most("max-locals", rest)?;
@@ -144,7 +144,7 @@ fn policy(text: &str) -> io::Result<(Policy, &str)> {
     Ok((policy, rest))
 }
 
-/// The words of a text, those of the standard where older ones are not named, and what stands behind that.
+/// Parses the spellings, `Standard` if `old-words` is missing, and returns them and the rest.
 fn spellings(text: &str) -> (Spellings, &str) {
     match text.strip_prefix("old-words ") {
         Some(rest) => (Spellings::Older, rest),
@@ -152,7 +152,7 @@ fn spellings(text: &str) -> (Spellings, &str) {
     }
 }
 
-/// A byte in two hexadecimal digits.
+/// Parses a byte in two hexadecimal digits.
 fn byte(word: &str) -> io::Result<u8> {
     match u8::from_str_radix(word, 16) {
         Ok(byte) if word.len() == 2 => Ok(byte),
@@ -160,7 +160,7 @@ fn byte(word: &str) -> io::Result<u8> {
     }
 }
 
-/// The bytes that words stand for.
+/// Parses BYTES.
 fn bytes(alloc: Global, words: &str) -> io::Result<Vec<u8>> {
     let mut bytes = Vec::new(alloc);
     for word in words.split_whitespace() {
@@ -172,7 +172,7 @@ fn bytes(alloc: Global, words: &str) -> io::Result<Vec<u8>> {
     Ok(bytes)
 }
 
-/// The text of parts, each with how many times it comes, if that is more than once.
+/// Returns the text of PARTS: each part as often as its number says, once if it has none.
 fn repeated(alloc: Global, parts: &str) -> io::Result<Vec<u8>> {
     let mut text = Vec::new(alloc);
     for part in parts.split('|') {
@@ -185,7 +185,7 @@ fn repeated(alloc: Global, parts: &str) -> io::Result<Vec<u8>> {
     Ok(text)
 }
 
-/// The text that stands behind an action and its options.
+/// Parses the text after the action and the options.
 fn text(alloc: Global, rest: &str) -> io::Result<Vec<u8>> {
     if let Some(words) = rest.strip_prefix("bytes ") {
         return bytes(alloc, words);
@@ -197,7 +197,7 @@ fn text(alloc: Global, rest: &str) -> io::Result<Vec<u8>> {
     }
 }
 
-/// The input that stands behind an action and its options.
+/// Parses the input after the action and the options.
 fn input(alloc: Global, action: Action, rest: &str) -> io::Result<Vec<u8>> {
     match action {
         Action::Build | Action::Read => text(alloc, rest),
@@ -205,7 +205,7 @@ fn input(alloc: Global, action: Action, rest: &str) -> io::Result<Vec<u8>> {
     }
 }
 
-/// What a line asks.
+/// Parses a line. Fails with `InvalidData` if it is no row.
 pub fn read_row(alloc: Global, line: &str) -> io::Result<Row> {
     let (action, rest) = action_of(line)?;
     let (profile, rest) = profile(rest);

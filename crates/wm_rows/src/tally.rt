@@ -1,4 +1,4 @@
-//! How much was run.
+//! Counts the rows and runs.
 
 /// Counts over all rows.
 #[derive(Clone, Copy)]
@@ -8,7 +8,7 @@ pub struct Tally {
     pub cuts: u32,
     /// Binaries that differ from a row's in one byte.
     pub changes: u32,
-    /// How many of these are valid.
+    /// The valid ones among these.
     pub valid: u32,
 }
 
@@ -23,7 +23,7 @@ impl Tally {
     }
 }
 
-/// One more.
+/// Adds one.
 pub fn count(number: &mut u32) {
     *number = number.saturating_add(1);
 }

@@ -1,4 +1,4 @@
-//! Modules in bytes and in text, and back.
+//! Converts modules from binary to text and back.
 
 use crate::row::{HEADER, Row};
 use std::alloc::Global;
@@ -17,29 +17,29 @@ use wm_write::check_module::{CheckFault, check, checked_bytes};
 use wm_write::encode::encode;
 use wm_write::print::print;
 
-/// A function with more locals has a text that is not tried.
+/// The most locals of a function for which the module is printed and read back.
 const LOCALS: u32 = 65_536;
 
-/// What a text gives.
+/// The result of building a text.
 #[derive(Drop)]
 pub enum Built {
     /// The canonical binary of its module.
     Binary(Vec<u8>),
-    /// Why there is none.
+    /// The line of the refusal.
     Refused(String),
 }
 
-/// Memory was refused. It ends the program.
+/// The error for memory that was refused. It ends the program.
 pub fn out_of_memory() -> io::Error {
     io::Error::from(ErrorKind::OutOfMemory)
 }
 
-/// These words.
+/// Returns `words` as an answer.
 pub fn say(alloc: Global, words: &str) -> io::Result<String> {
     Ok(String::from_str(alloc, words)?)
 }
 
-/// The canonical binary of a module.
+/// Returns the canonical binary of a module.
 pub fn canonical(alloc: Global, module: &Module) -> io::Result<Vec<u8>> {
     let mut dest = Output::new(Vec::new(alloc));
     match encode(module, &mut dest) {
@@ -48,7 +48,7 @@ pub fn canonical(alloc: Global, module: &Module) -> io::Result<Vec<u8>> {
     }
 }
 
-/// The text of a module.
+/// Returns the text of a module.
 fn text_of(alloc: Global, checked: &Checked) -> io::Result<Vec<u8>> {
     let mut dest = Output::new(Vec::new(alloc));
     match print(checked, &mut dest) {
@@ -57,18 +57,18 @@ fn text_of(alloc: Global, checked: &Checked) -> io::Result<Vec<u8>> {
     }
 }
 
-/// Whether the text of a module is short enough to be tried: it has a word for each local.
+/// Whether the text of a module is short enough to be read back: it has a keyword for each local.
 fn is_short_in_text(checked: &Checked) -> bool {
     let mut functions = checked.module().functions.iter();
     functions.all(|function| function.locals.len() <= LOCALS)
 }
 
-/// The answer where a module or a text is refused.
+/// Returns the answer for a refusal. `whose` is `module `, `text ` or empty.
 pub fn refuse(alloc: Global, whose: &str, at: u64, name: &str) -> io::Result<String> {
     Ok(format!(in alloc; "{whose}refused at {at}: {name}")?)
 }
 
-/// The canonical binary of a module that is checked as a value.
+/// Checks a module value, and returns its canonical binary or the fault.
 fn bytes_of(alloc: Global, row: &Row, module: &Module) -> io::Result<Result<Vec<u8>, CheckFault>> {
     match check(alloc, row.profile, row.policy, module) {
         Ok(checked) => Ok(Ok(canonical(alloc, checked.module())?)),
@@ -77,7 +77,8 @@ fn bytes_of(alloc: Global, row: &Row, module: &Module) -> io::Result<Result<Vec<
     }
 }
 
-/// What a module gives that is checked as a value, whether a second one is made of it or its bytes alone.
+/// Checks a module value with `check` and with `checked_bytes`, and returns its canonical binary or the line of its
+/// refusal. If the two differ, the line says that.
 fn build_module(alloc: Global, row: &Row, module: &Module) -> io::Result<Built> {
     let bytes = bytes_of(alloc, row, module)?;
     let alone = checked_bytes(alloc, row.profile, row.policy, module);
@@ -97,7 +98,7 @@ fn build_module(alloc: Global, row: &Row, module: &Module) -> io::Result<Built> 
     Ok(Built::Refused(line))
 }
 
-/// The answer where a text is refused.
+/// Returns the answer for a refusal of a text.
 fn refuse_text(alloc: Global, refusal: TextRefusal) -> io::Result<String> {
     if refusal.why == TextWhy::Memory {
         return Err(out_of_memory());
@@ -105,7 +106,7 @@ fn refuse_text(alloc: Global, refusal: TextRefusal) -> io::Result<String> {
     refuse(alloc, "text ", refusal.at as u64, refusal.why.name())
 }
 
-/// What a text gives, which has words so spelled.
+/// Builds a text with these spellings.
 pub fn build(alloc: Global, row: &Row, spellings: Spellings, text: &[u8]) -> io::Result<Built> {
     match read_text(alloc, row.profile, spellings, text) {
         Ok(module) => build_module(alloc, row, &module),
@@ -113,7 +114,7 @@ pub fn build(alloc: Global, row: &Row, spellings: Spellings, text: &[u8]) -> io:
     }
 }
 
-/// The binary of the module that a row's text writes, be it valid or not.
+/// Returns the canonical binary of the module that a row's text writes, valid or not.
 pub fn read(alloc: Global, row: &Row) -> io::Result<String> {
     match read_text(alloc, row.profile, row.spellings, &row.input) {
         Ok(module) => spell(alloc, &canonical(alloc, &module)?),
@@ -121,7 +122,7 @@ pub fn read(alloc: Global, row: &Row) -> io::Result<String> {
     }
 }
 
-/// Whether this canonical binary was built.
+/// Whether the result is this canonical binary.
 fn is_built(built: &Built, canonical: &[u8]) -> bool {
     match built {
         Built::Binary(binary) => binary.as_slice() == canonical,
@@ -129,7 +130,7 @@ fn is_built(built: &Built, canonical: &[u8]) -> bool {
     }
 }
 
-/// Whether a module has this canonical binary once it is checked as a value, and once its text is read.
+/// Whether a module gives this canonical binary when it is checked as a value, and when its text is built.
 fn is_module_given_back(
     alloc: Global,
     row: &Row,
@@ -146,7 +147,7 @@ fn is_module_given_back(
     Ok(is_built(&build(alloc, row, Spellings::Standard, &text)?, canonical))
 }
 
-/// What a binary's module is, if it is valid.
+/// Returns the module of a binary, or `None` if it is refused.
 fn module_of(alloc: Global, row: &Row, binary: &[u8]) -> io::Result<Option<Checked>> {
     let mut source = Input::new(binary);
     match load_from(
@@ -162,8 +163,8 @@ fn module_of(alloc: Global, row: &Row, binary: &[u8]) -> io::Result<Option<Check
     }
 }
 
-/// Whether a binary's module has this canonical binary once it is checked as a value, and once its text is
-/// read. No clause: the file `stdout` has what is right.
+/// Whether a binary's module gives this canonical binary when it is checked as a value, and when its text is built. It
+/// has no contract: `stdout` has the right answers.
 pub fn is_given_back(
     alloc: Global,
     row: &Row,
@@ -176,7 +177,7 @@ pub fn is_given_back(
     }
 }
 
-/// The text of a binary, if it is valid.
+/// Returns the text of a binary, or `None` if it is refused.
 fn shown(alloc: Global, row: &Row, binary: &[u8]) -> io::Result<Option<Vec<u8>>> {
     match module_of(alloc, row, binary)? {
         Some(checked) => Ok(Some(text_of(alloc, &checked)?)),
@@ -184,7 +185,7 @@ fn shown(alloc: Global, row: &Row, binary: &[u8]) -> io::Result<Option<Vec<u8>>>
     }
 }
 
-/// The lines of a binary's text, with an empty one behind them.
+/// Returns the lines of a binary's text, followed by an empty one.
 pub fn show(alloc: Global, row: &Row, binary: &[u8]) -> io::Result<String> {
     let text = shown(alloc, row, binary)?.unwrap_or(Vec::new(alloc));
     match str::from_utf8(&text) {
@@ -193,7 +194,7 @@ pub fn show(alloc: Global, row: &Row, binary: &[u8]) -> io::Result<String> {
     }
 }
 
-/// The bytes of a module as a row has them.
+/// Returns the bytes of a module as BYTES of a row.
 pub fn spell(alloc: Global, module: &[u8]) -> io::Result<String> {
     let Some(rest) = module.strip_prefix(&HEADER) else {
         return say(alloc, "no header");

@@ -1,7 +1,7 @@
 //! Rows: lines with a call and its answer.
 //!
 //! ```text
-//! read WORDS = ACTION PROFILE LIMIT FUNCTIONS LOCALS DEPTH SPELLINGS FILE PATH, or the kind of the fault and its exit status
+//! read WORDS = ACTION PROFILE LIMIT FUNCTIONS LOCALS DEPTH SPELLINGS FILE PATH, or the fault's kind and exit status
 //! wrong WORDS = the message for the first wrong word
 //! wmod WORDS < INPUT = the exit status, and the output
 //! in N WORDS < INPUT = both, if the reader gives N bytes, one a call, and then fails
