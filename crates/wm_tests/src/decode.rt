@@ -1,4 +1,4 @@
-//! Tests of the decoder over sinks that write down, count or refuse.
+//! Tests of the decoder with sinks that record, count or refuse items.
 
 ghost use Rattle.std.specs.Prelude.{◌<◌};
 
@@ -18,10 +18,10 @@ use wm_machine::laws;
 use wm_syntax::profile::Profile;
 use wm_syntax::why::Why;
 
-// How an input is cut: byte by byte and seven by seven.
+// The lengths of the pieces of an input.
 const SIZES: [usize; 2] = [1, 7];
 
-// The items that were written down, and how the input ended.
+// Returns the recorded items, and `taken` or the refusal.
 fn told_by(alloc: Global, decoder: Decoder<Recorder>) -> Result<String, AllocError> {
     let mut told = String::new(alloc);
     for item in decoder.sink().seen.iter() {
@@ -34,8 +34,8 @@ fn told_by(alloc: Global, decoder: Decoder<Recorder>) -> Result<String, AllocErr
     Ok(told)
 }
 
-// The same of an input of which so many bytes come first, and the rest in pieces of so many,
-// an empty one after each.
+// Decodes an input, and returns what `told_by` does. The first piece has `first` bytes, the others `size`. An empty
+// piece follows each of these.
 fn told(
     alloc: Global,
     profile: Profile,
@@ -55,7 +55,7 @@ fn told(
     told_by(alloc, decoder)
 }
 
-// The items of an input, each behind the count of bytes at which it came.
+// Returns the items of an input, each after the number of bytes that complete it.
 fn places(alloc: Global, profile: Profile, bytes: &[u8]) -> Result<String, AllocError> {
     let mut decoder = Decoder::new(alloc, nothing_seen(alloc), profile, 1000);
     let mut placed = String::new(alloc);
@@ -71,7 +71,7 @@ fn places(alloc: Global, profile: Profile, bytes: &[u8]) -> Result<String, Alloc
     Ok(placed)
 }
 
-// Where the input is refused, and by which word.
+// Returns the offset and the name of an input's refusal, or nothing if it is taken.
 fn refusal(alloc: Global, profile: Profile, bytes: &[u8]) -> Result<String, AllocError> {
     let mut decoder = Decoder::new(alloc, NONE, profile, 1000);
     let _ = decoder.feed(bytes);
@@ -82,7 +82,7 @@ fn refusal(alloc: Global, profile: Profile, bytes: &[u8]) -> Result<String, Allo
     Ok(told)
 }
 
-// The bytes of a row, which may be those of an expression alone.
+// Returns the input of a row. For `body` and `unfinished` the row has only an expression.
 fn input_of(
     rt: &impl Abort,
     alloc: Global,
@@ -96,7 +96,7 @@ fn input_of(
     }
 }
 
-// The answer of a row: of `items` and `places` what was written down, of `refusal` its place and its word.
+// Returns the answer to a call: the recorded items, the refusal, or the ops of a body.
 fn answer(alloc: Global, profile: Profile, call: &str, bytes: &[u8]) -> Result<String, AllocError> {
     match call {
         "items" => told(alloc, profile, bytes, 0, 1000),
@@ -108,7 +108,7 @@ fn answer(alloc: Global, profile: Profile, call: &str, bytes: &[u8]) -> Result<S
     }
 }
 
-// However the input is cut, the same is told.
+// Expects the same items and the same end, however the input is cut.
 fn expect_any_cut(
     rt: &impl Abort,
     alloc: Global,
@@ -134,7 +134,7 @@ fn expect_any_cut(
     Ok(())
 }
 
-// A row is `what is special: CALL BYTES = ANSWER`, or that without its head.
+// Plays a row, `what is special: CALL BYTES = ANSWER`. The part up to the colon is optional.
 fn play_row(rt: &impl Abort, alloc: Global, profile: Profile, row: &str) -> Result<(), Fail> {
     let (left, wanted) = row.split_once(" = ").unwrap_or((row, "no answer"));
     let (_, call) = left.split_once(": ").unwrap_or(("", left));
@@ -145,7 +145,7 @@ fn play_row(rt: &impl Abort, alloc: Global, profile: Profile, row: &str) -> Resu
     expect_any_cut(rt, alloc, profile, row, bytes.as_slice())
 }
 
-// Plays rows under a profile, as many as are wanted.
+// Plays rows under a profile, and expects `wanted` of them.
 fn play(
     rt: &impl Abort,
     alloc: Global,
@@ -162,7 +162,7 @@ fn play(
     Ok(())
 }
 
-// A sign extension, which the third profile has not
+// A body with a sign-extension instruction: `Two` and `Four` have it.
 const EXTENDED: &str = "H 01 04 01 60 00 00 03 02 01 00 0A 05 01 03 00 C0 0B";
 
 #[test]
@@ -217,7 +217,7 @@ fn a_sink_that_counts(rt: HostRuntime) -> Result<(), Fail> {
 // Two segments, of seven bytes and of none.
 const SEGMENTS: &str = "H 0B 12 02 00 41 00 0B 07 01 02 03 04 05 06 07 00 41 00 0B 00";
 
-// Of each piece a segment's bytes come in one slice.
+// The bytes of a segment come in at most one slice for each piece.
 #[test]
 fn data_come_in_slices(rt: HostRuntime) -> Result<(), Fail> {
     let bytes = bytes_of(rt.alloc(), SEGMENTS)?;
@@ -239,7 +239,7 @@ fn data_come_in_slices(rt: HostRuntime) -> Result<(), Fail> {
     Ok(())
 }
 
-// After this piece so many bytes of a name are held, and so many items were given.
+// Expects that after this piece the decoder holds `name` bytes of a name, and has passed `items` items to the sink.
 fn expect_held(
     rt: &impl Abort,
     decoder: &mut Decoder<Recorder>,
@@ -259,8 +259,7 @@ fn a_name_that_goes_on(rt: HostRuntime) {
     expect_held(&rt, &mut decoder, b"c\x01\x04\x01\x60", 0, 1);
 }
 
-// A header of which seven bytes are within the limit, of which so many come first and the
-// rest in pieces of so many.
+// Returns the refusal of a header under a limit of seven bytes. The first piece has `first` bytes, the others `size`.
 fn past_the_limit(alloc: Global, first: usize, size: usize) -> Option<Refusal>
     requires { 0 < size }
 {
@@ -285,7 +284,7 @@ fn a_limit(rt: HostRuntime) {
     assert!(rt; past_the_limit(rt.alloc(), 0, 1) == refusal);
 }
 
-// A custom section of 127 bytes, of which 9 are within the limit.
+// The limit is in the middle of a custom section.
 #[test]
 fn a_limit_within_custom_bytes(rt: HostRuntime) -> Result<(), Fail> {
     let refusal = Refusal {
@@ -309,7 +308,7 @@ fn a_limit_within_custom_bytes(rt: HostRuntime) -> Result<(), Fail> {
     Ok(())
 }
 
-// What a sink answers that refuses all items, at the feed and at the end.
+// Returns the refusals of `feed` and of `finish` with a sink that refuses all items.
 fn refused_by_full(alloc: Global, bytes: &[u8]) -> (Option<Refusal>, Option<Refusal>) {
     let mut decoder = Decoder::new(alloc, Full {}, Profile::One, 1000);
     let answer = decoder.feed(bytes).err();
@@ -330,7 +329,7 @@ fn a_sink_that_refuses(rt: HostRuntime) -> Result<(), Fail> {
     Ok(())
 }
 
-// Of the bytes so far a decoder holds a few words, and the name that goes on.
+// From the bytes so far, a decoder keeps a few words and an unfinished name.
 #[test]
 fn a_decoder_is_small(rt: HostRuntime) {
     assert!(rt; std::mem::size_of::<Decoder<Full>>() <= 120);

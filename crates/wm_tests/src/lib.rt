@@ -1,6 +1,6 @@
-//! Tests of `wm_decode`, `wm_rules` and `wm_write`, over what they hand out. A crate with tests is proved
-//! twice, with them and without; so they stand here, above the crates that they try. Those of `wm_syntax`,
-//! `wm_floats`, `wm_stacks` and `wm_typing` stand in `wm_base_tests`.
+//! Tests of `wm_decode`, `wm_rules` and `wm_write`, through their public items. They are in a crate of their own
+//! because a crate with tests is proved twice, with the tests and without. `wm_base_tests` has the tests of
+//! `wm_syntax`, `wm_floats`, `wm_stacks` and `wm_typing`.
 #![tactic(auto)]
 
 #[cfg(test)]

@@ -1,4 +1,4 @@
-//! The binaries and the texts of modules.
+//! Tests of the encoder and the printer.
 
 use wm_write::laws;
 

@@ -1,4 +1,4 @@
-//! Expressions (section 5.4.6), as bodies of a function of type [] to [] without locals.
+//! Expressions (Core spec 5.4.6), as bodies of a function of type [] to [] without locals.
 
 use super::fixtures::bytes_of;
 use super::play;
@@ -9,10 +9,11 @@ use std::test::Fail;
 use wm_decode::{Decoder, Refusal};
 use wm_syntax::profile::Profile;
 
-// A module of one function, up to its code section.
+// The bytes of a module with one function, up to the code section.
 const ONE_FUNCTION: &str = "H 01 04 01 60 00 00 03 02 01 00";
 
-/// The module whose one body these bytes are, at most a hundred; its entry has so many more that do not come.
+/// Returns a module with these bytes as its one body, at most a hundred. The size of its code entry counts `more` bytes
+/// that are missing.
 pub fn in_a_body(
     rt: &impl Abort,
     alloc: Global,
@@ -28,7 +29,7 @@ pub fn in_a_body(
     Ok(bytes)
 }
 
-/// The ops of the body, or why its bytes are refused.
+/// Returns the ops of the body, or the name of the refusal.
 pub fn body(alloc: Global, profile: Profile, bytes: &[u8]) -> Result<String, AllocError> {
     let (mut told, refusal) = read(alloc, profile, bytes)?;
     if let Some(refusal) = refusal {
@@ -38,7 +39,7 @@ pub fn body(alloc: Global, profile: Profile, bytes: &[u8]) -> Result<String, All
     Ok(told)
 }
 
-/// The ops so far of the body, and why it is refused.
+/// Returns the ops of the body so far, and the name of the refusal.
 pub fn unfinished(alloc: Global, profile: Profile, bytes: &[u8]) -> Result<String, AllocError> {
     let (mut told, refusal) = read(alloc, profile, bytes)?;
     if let Some(refusal) = refusal {
@@ -47,7 +48,7 @@ pub fn unfinished(alloc: Global, profile: Profile, bytes: &[u8]) -> Result<Strin
     Ok(told)
 }
 
-// The ops that some bytes complete, and the refusal if there is one.
+// Returns the ops that the bytes complete, and the refusal if there is one.
 fn read(
     alloc: Global,
     profile: Profile,
@@ -59,7 +60,7 @@ fn read(
     Ok((ops, decoder.finish().err()))
 }
 
-// The ops among items that were written down.
+// Returns the ops among recorded items.
 fn ops_in(alloc: Global, seen: &[String]) -> Result<String, AllocError> {
     let mut ops = String::new(alloc);
     let mut between = "";
@@ -76,8 +77,8 @@ fn op_in(item: &str) -> Option<&str> {
     item.strip_prefix("Op(")?.strip_suffix(")")
 }
 
-// In turn: blocks in one another; a br_table's two labels and the default; two immediates; a
-// constant of ten bytes.
+// In turn: nested blocks; a `br_table` with two labels and the default; instructions with immediates; a constant of ten
+// bytes.
 const WHOLE: &str =
     "body 02 40 03 7F 0C 01 0B 0B 0B = [Block(None), Loop(Some(I32)), Simple(Br(1)), End, End, End]
 body 0E 02 00 81 00 0B 0B = [BrTable(2), Label(0), Label(1), Label(11), End]
@@ -85,7 +86,7 @@ body 28 02 80 01 11 03 00 3F 00 0B = [Simple(Load(I32Load, MemArg { align: 2, of
 body 42 80 80 80 80 80 80 80 80 80 7F 0B = [Simple(I64Const(-9223372036854775808)), End]
 ";
 
-// C0 is a sign extension, which the first profile has not.
+// C0 is a sign-extension instruction, which profile `One` lacks.
 const REFUSED: &str = "body 43 = Float
 body 44 = Float
 body 2A = Float
@@ -102,7 +103,7 @@ body 0E 80 80 80 80 10 = BadNumber
 body 0B 0B = BodyEnd
 ";
 
-// Where the profile has floats: their constants, whole and not, and the places of their types.
+// Rows for profiles with floats: whole and cut constants, and float types.
 const FLOATS: &str = "body 43 00 00 C0 7F 0B = [Simple(F32Const(2143289344)), End]
 body 43 01 02 03 84 0B = [Simple(F32Const(2214789633)), End]
 body 44 01 02 03 04 05 06 07 88 0B = [Simple(F64Const(9801809732607083009)), End]
@@ -118,8 +119,8 @@ body 06 = BadOpcode
 body C0 = BadOpcode
 ";
 
-// An if that ends before its body does, and labels of which the last is missing: the ops so far. With the
-// missing bytes each of them is a body.
+// Bodies that are cut: an `if` that ends before the body does, and a `br_table` without its default label. With the
+// missing bytes each is a body.
 const CUT: &str = "unfinished 04 40 05 0B = [If(None), Else, End] Truncated
 body 04 40 05 0B = BodyEnd
 body 04 40 05 0B 0B = [If(None), Else, End, End]

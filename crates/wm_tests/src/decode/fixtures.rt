@@ -1,4 +1,4 @@
-//! Bytes as the rows of tests write them.
+//! Parses the bytes of rows.
 
 use std::alloc::{AllocError, Global};
 
@@ -12,8 +12,8 @@ fn digit(c: u8) -> u8 {
     }
 }
 
-/// Bytes in hexadecimal digits; H is a header. No clause: it is of tests alone, and their
-/// rows show what it gives.
+/// Parses bytes in hexadecimal digits, with H for the header. It has no contract: only tests use it, and their rows
+/// cover it.
 pub fn bytes_of(alloc: Global, words: &str) -> Result<Vec<u8>, AllocError> {
     let mut bytes = Vec::new(alloc);
     for word in words.split_whitespace() {

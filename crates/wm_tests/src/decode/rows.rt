@@ -1,6 +1,6 @@
 //! The rows of the decoder: `what is special: CALL BYTES = ANSWER`.
 
-/// Every section that holds items, none of them twice
+/// A module with each section that holds items.
 pub const ALL: &str =
     "H 01 04 01 60 00 00 02 07 01 01 61 01 62 00 00 03 02 01 00 04 05 01 70 01 01 02 05 03 01 00 01 06 06 01 7E 01 42 7F 0B 07 05 01 01 63 03 00 08 01 00 09 07 01 00 41 00 0B 01 00 0A 0B 01 09 02 01 7F 02 7E 02 40 0B 0B 0B 07 01 00 23 00 0B 01 61";
 
@@ -74,7 +74,7 @@ a memory that the input cuts: refusal H 05 04 01 01 01 = 13 Truncated
 a size in three bytes, and a byte after its section: refusal H 05 83 80 00 01 00 01 0C = 16 SectionId
 ";
 
-/// Of one function of type [] to [].
+/// Modules with one function of type [] to [].
 pub const CODE_REFUSALS: &str = "no code: refusal H 01 04 01 60 00 00 03 02 01 00 = 18 CodeCount
 data before the code: refusal H 01 04 01 60 00 00 03 02 01 00 0B = 19 CodeCount
 no code after a custom section: refusal H 01 04 01 60 00 00 03 02 01 00 00 01 00 0B = 22 CodeCount
@@ -96,7 +96,7 @@ a padded index of a table: refusal H 01 04 01 60 00 00 03 02 01 00 0A 09 01 07 0
 a byte after the last entry: refusal H 01 04 01 60 00 00 03 02 01 00 0A 05 01 02 00 0B 0B = 24 SectionEnd
 ";
 
-/// Where the profile has floats
+/// Rows for profiles with floats.
 pub const FLOATS: &str =
     "a type of floats: items H 01 07 01 60 02 7D 7C 01 7D = NewType, Param(F32), Param(F64), Results(1), Result(F32), taken
 an imported global: items H 02 08 01 01 61 01 62 03 7C 00 = ImportModule([97]), ImportName([98]), ImportGlobal(GlobalType { ty: F64, var: false }), taken

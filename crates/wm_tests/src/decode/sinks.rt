@@ -1,4 +1,4 @@
-//! Sinks of the tests of the decoder: they write down, count or refuse.
+//! Sinks for the tests of the decoder, which record, count or refuse items.
 
 ghost use Rattle.std.specs.Prelude.{◌≡◌, Err, IfErr, Ok, refl};
 ghost use Rattle.wm_machine.specs.Items.{data_byte};
@@ -8,7 +8,7 @@ use std::alloc::{AllocError, Global};
 use wm_decode::{Item, Sink};
 use wm_syntax::why::Why;
 
-/// Writes down each item as Debug has it, and each byte of data for itself.
+/// Records each item as `Debug` writes it, and each byte of data as an item of its own.
 #[derive(Drop)]
 pub struct Recorder {
     alloc: Global,
@@ -79,7 +79,7 @@ impl Sink for Recorder {
     ghost takes_data = { λ h c. refl };
 }
 
-/// Counts the items, the bytes of data, and the slices in which these came.
+/// Counts the items other than data, the bytes of data, and the slices of data.
 #[derive(Drop)]
 pub struct Counter {
     pub items: u64,
@@ -115,7 +115,7 @@ impl Sink for Counter {
     ghost takes_data = { λ h c. refl };
 }
 
-/// Refuses every item but data.
+/// Refuses data as `Memory`, and every other item as `Arity`.
 #[derive(Drop)]
 pub struct Full {}
 

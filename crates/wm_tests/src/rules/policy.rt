@@ -1,4 +1,4 @@
-//! What passes a policy, and what is just within it.
+//! Inputs that are just within a policy, and inputs that go beyond it.
 
 use super::scripts::play;
 use super::{judge, loader, pieces};
@@ -7,7 +7,7 @@ use std::alloc::Global;
 use std::process::Abort;
 use wm_rules::Policy;
 
-/// The answer to a call under a policy: its limits of functions, locals and depth, and the call.
+/// Returns the answer to a call under a policy. The text has the limits of functions, locals and depth, then the call.
 pub(crate) fn within(rt: &impl Abort, alloc: Global, text: &'static str) -> String {
     let (functions, text) = word_of(text);
     let (locals, text) = word_of(text);
@@ -39,7 +39,7 @@ fn limit_of(rt: &impl Abort, word: &str) -> Option<u32> {
     Some(number_of(rt, word))
 }
 
-// Imported ones are counted, and a limit of 0 is one.
+// Imported functions are counted, and 0 is a limit too.
 const FUNCTIONS: &str = "\
 within 2 none none judge type, results 0, import_module m, import_name f, import_func 0, func 0 = taken
 within 2 none none judge type, results 0, import_module m, import_name f, import_func 0, func 0, func 0 = ManyFunctions
@@ -49,7 +49,7 @@ within 0 none none judge type, results 0, import_global i32, table 0, memory 0 =
 within 0 none none judge type, results 0, import_func 0 = ManyFunctions
 within 0 none none judge type, results 0, func 0 = ManyFunctions";
 
-// Each function's own, without its parameters, run by run.
+// The locals of each function are counted by themselves, without parameters, at each run.
 const LOCALS: &str = "\
 within none 5 none judge type, results 0, func 0, body, locals 2 i32, locals 3 i64, op end = taken
 within none 5 none judge type, results 0, func 0, body, locals 2 i32, locals 4 i64 = ManyLocals
@@ -62,7 +62,7 @@ within none 2 none judge type, results 0, func 0, func 0, body, locals 2 i32, op
 within none 2 none judge type, results 0, func 0, func 0, body, locals 1 i32, op end, body, locals 2 i64, locals 1 i64 = ManyLocals
 within none 4294967295 none judge type, results 0, func 0, body, locals 4294967295 i64, locals 0 i32, op end = taken";
 
-// A block, a loop and an if that are open, and the function's own frame is none of them.
+// Open blocks, loops and ifs are counted, but not the function's own frame.
 const DEPTH: &str = "\
 within none none 1 judge type, results 0, func 0, body, op block, op end, op loop, op end, op i32.const, op if, op end, op end = taken
 within none none 3 judge type, results 0, func 0, body, op block, op loop, op i32.const, op if, op end, op end, op end, op end = taken
@@ -77,7 +77,7 @@ within none none 0 judge type, results 0, func 0, body, op block = Deep
 within none none 1 judge type, results 0, func 0, func 0, body, op block, op end, op end, body, op block, op end, op end = taken
 within none none 1 judge type, results 0, func 0, func 0, body, op block, op end, op end, body, op block, op block = Deep";
 
-// At one item a rule is asked first.
+// A rule is checked before the policy at the same item.
 const RULES_FIRST: &str = "\
 within 0 none none judge type, results 0, func 1 = Index
 within 0 none none judge type, results 0, import_func 1 = Index
@@ -86,7 +86,7 @@ within none 0 none judge locals 1 i32 = Index
 within none none 0 judge type, results 0, func 0, body, op if = Arity
 within none none 0 judge type, results 0, func 0, body, op i64.const, op if = Type";
 
-// The places of refusals. At one byte the policy comes before an entry and a section that end too early.
+// The offsets of refusals. At the same byte, the policy comes before `BodyEnd` and `SectionEnd`.
 const INPUTS: &str = "\
 within 0 none none validate 1000 by 1 ADD; within 0 none none validate 1000 ADD = Err(Refusal { at: 21, why: ManyFunctions })
 within 0 none none from ADD = Err(Refused(Refusal { at: 21, why: ManyFunctions }))

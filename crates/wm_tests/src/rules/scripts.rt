@@ -1,7 +1,7 @@
-//! Scripts for tests: a line is a row, with its calls and, behind ` = `, what each of them answers.
+//! Plays scripts. A line is a row: its calls, ` = `, and the answer to each of them.
 //!
-//! A call is a word and what it is made with: items with a comma between them, or the pieces of an input.
-//! There is a `; ` between two calls.
+//! A call is a word and its argument: items separated by commas, or the pieces of an input. There is a `; ` between
+//! two calls.
 
 pub(crate) mod bytes;
 pub(crate) mod items;
@@ -12,7 +12,7 @@ use std::alloc::Global;
 use std::process::Abort;
 use wm_rules::Policy;
 
-/// Makes the calls of a script in turn.
+/// Makes the calls of a script in order, and expects their answers.
 pub(crate) fn play(rt: &impl Abort, alloc: Global, script: &'static str) {
     assert!(rt; !script.is_empty(), "an empty script");
     for line in script.lines() {

@@ -1,5 +1,5 @@
-//! Modules and their canonical binaries. A module stands as bytes that spell it, as Debug writes it, and as
-//! its canonical binary.
+//! Modules and their canonical binaries. A row has bytes that spell a module, the module as `Debug` writes it, and its
+//! canonical binary.
 
 use crate::write::narrow::Narrow;
 use std::alloc::Global;
@@ -20,7 +20,7 @@ start: None, elements: [], segments: [] }",
     b"\0asm\x01\0\0\0",
 );
 
-/// A function that adds its two parameters, in 32 bytes.
+/// A module of 32 bytes with a function that adds its two parameters.
 const ADDING: &[u8] = b"\0asm\x01\0\0\0\x01\x07\x01\x60\x02\x7F\x7F\x01\x7F\x03\x02\x01\x00\
     \x0A\x09\x01\x07\x00\x20\x00\x20\x01\x6A\x0B";
 
@@ -33,7 +33,7 @@ tables: [], memories: [], globals: [], exports: [], start: None, elements: [], s
     ADDING,
 );
 
-// An i32, no i64 and two i32 are one run.
+// Runs of one i32, no i64 and two i32 become one run.
 const LOCALS: Row = (
     b"\0asm\x01\0\0\0\x01\x04\x01\x60\x00\x00\x03\x02\x01\x00\x0A\x0A\x01\x08\x03\x01\x7F\x00\x7E\x02\x7F\x0B",
     "Module { types: [FuncType { params: [], results: [] }], imports: [], \
@@ -42,7 +42,7 @@ tables: [], memories: [], globals: [], exports: [], start: None, elements: [], s
     b"\0asm\x01\0\0\0\x01\x04\x01\x60\x00\x00\x03\x02\x01\x00\x0A\x06\x01\x04\x01\x03\x7F\x0B",
 );
 
-// An if with a result and an else; its numbers have two bytes each.
+// An `if` with a result and an `else`. The numbers have two bytes each.
 const BRANCHES: Row = (
     b"\0asm\x01\0\0\0\x01\x05\x01\x60\x00\x01\x7F\x03\x02\x01\x00\
     \x0A\x11\x01\x0F\x00\x41\x81\x00\x04\x7F\x41\x82\x00\x05\x41\x83\x00\x0B\x0B",
@@ -54,7 +54,7 @@ tables: [], memories: [], globals: [], exports: [], start: None, elements: [], s
     \x0A\x0E\x01\x0C\x00\x41\x01\x04\x7F\x41\x02\x05\x41\x03\x0B\x0B",
 );
 
-// A NaN with a payload and -0. An empty run between two others is left out.
+// A NaN with a payload, and -0. An empty run between two others is dropped.
 const FLOATS: Row = (
     b"\0asm\x01\0\0\0\x01\x06\x01\x60\x01\x7D\x01\x7C\x03\x02\x01\x00\
     \x06\x09\x01\x7D\x00\x43\x01\x00\xA0\xFF\x0B\
@@ -76,7 +76,7 @@ const SECTIONS_BYTES: &[u8] = b"\0asm\x01\0\0\0\x01\x06\x01\x60\x01\x7F\x01\x7E\
     \x09\x09\x01\x00\x41\x00\x0B\x02\x00\xC8\x01\x0A\x05\x01\x03\x00\x01\x0B\
     \x0B\x08\x01\x00\x23\x00\x0B\x02\x00\xFF";
 
-// Each kind of section, of a module that is not valid.
+// A module with each kind of section that is not valid.
 const SECTIONS: Row = (
     SECTIONS_BYTES,
     "Module { types: [FuncType { params: [I32], results: [I64] }], \
@@ -91,7 +91,7 @@ segments: [Segment { memory: 0, offset: Global(0), bytes: [0, 255] }] }",
     SECTIONS_BYTES,
 );
 
-/// The module that bytes spell, valid or not.
+/// Returns the module that the bytes spell, valid or not.
 fn module_of(rt: &impl Abort, alloc: Global, input: &[u8]) -> Module {
     let mut decoder = Decoder::new(alloc, Builder::new(alloc), Profile::Three, 1000);
     decoder.feed(input).expect(rt, "what begins a module");

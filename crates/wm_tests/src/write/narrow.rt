@@ -1,10 +1,10 @@
-//! A writer for tests, with little room.
+//! A writer for tests with a limited number of bytes.
 
 use std::alloc::Global;
 use std::io;
 use std::io::Write;
 
-/// Takes so many bytes in all, one a call.
+/// Takes at most `room` bytes, one a call.
 #[derive(Drop)]
 pub(crate) struct Narrow {
     taken: Vec<u8>,
@@ -19,7 +19,7 @@ impl Narrow {
         }
     }
 
-    /// What it has taken.
+    /// Returns the bytes that it has taken.
     pub(crate) fn taken(&self) -> &[u8] {
         self.taken.as_slice()
     }

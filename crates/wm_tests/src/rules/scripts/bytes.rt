@@ -1,8 +1,8 @@
-//! The bytes of inputs, and their pieces.
+//! Parses the bytes of inputs and their pieces.
 //!
-//! Bytes stand as hexadecimal digits. `H` is the header and `ADD` a whole module, `ADD:0-20` the first 20
-//! bytes of it. `020B*3` stands for six bytes; in such a word `nn` is the number of the turn, from 0 on.
-//! `MANY` is an input.
+//! Bytes are hexadecimal digits. `H` is the header, `ADD` and `EVERY` are whole modules, and `ADD:0-20` is the first 20
+//! bytes of `ADD`. `020B*3` means six bytes. There `nn` is the number of the repetition, from 0. An input may also be
+//! `BAD_TYPE`, `WIDE`, `MANY` or `LARGE`.
 
 ghost use Rattle.std.specs.Prelude.{◌<◌};
 
@@ -12,7 +12,7 @@ use std::process::Abort;
 
 const HEADER: &str = "0061736D01000000";
 
-// A function that adds two numbers.
+// A module with a function that adds two numbers.
 const ADD: &str = "0061736D01000000\
     010701\
     60027F7F017F\
@@ -20,10 +20,10 @@ const ADD: &str = "0061736D01000000\
     0A090107\
     00200020016A0B";
 
-// An entry in each section. The types () and (i32); the import m.f, of type 0; two functions of types 1 and
-// 0; a table from 3 on, and a memory from 1 on; a variable i64 of 5; function 1 as é; the start function 2;
-// functions 2 and 1 from place 1 on; two locals and an if whose first branch is empty, and a block; four
-// bytes from -1 on.
+// A module with an entry in each section: the types () and (i32); the import m.f of type 0; functions of types 1 and
+// 0; a table of at least 3, and a memory of at least 1; a mutable i64 of 5; the export of function 1 as é; the start
+// function 2; the elements 2 and 1 at offset 1; a body with two locals and an `if` with an empty first branch, and a
+// body with a block; four bytes of data at offset -1.
 const EVERY: &str = "0061736D01000000\
     01080260000060017F00\
     020701016D01660000\
@@ -37,10 +37,10 @@ const EVERY: &str = "0061736D01000000\
     02400B0B\
     0B0A0100417F0B0400C3A922";
 
-// Four functions of which the third has a type that there is not.
+// Four functions. The type of the third does not exist.
 const BAD_TYPE: &str = "H 010401600000 03050400000100";
 
-// An imported function with 100,000 parameters, and one that calls it 50,000 times after `unreachable`.
+// An imported function with 100,000 parameters, and a function that calls it 50,000 times after `unreachable`.
 const WIDE: &str = "H 01A98D0602 60A08D06 7F*100000 00 600000 02050100000000 03020101 \
     0AA78D0601 A38D060000 1000*50000 0B";
 
@@ -48,16 +48,16 @@ const WIDE: &str = "H 01A98D0602 60A08D06 7F*100000 00 600000 02050100000000 030
 const MANY: &str = "H 00AE02AC02 63*300 010401600000 03CE08CC08 00*1100 07B10201AC02 65*300 0000 \
     0AE619CC08 02000B*1100";
 
-// 301 imported functions and 1,100 others, one of them of 5,000 ops; 513 exports; names of 300 bytes; an
-// element segment of 4,000 functions, and a data segment of 6,000 bytes.
+// 301 imported functions and 1,100 others, one of them with 5,000 ops; 513 exports; names of 300 bytes; an element
+// segment of 4,000 functions; a data segment of 6,000 bytes.
 const LARGE: &str = "H 010401600000 02E812AD02 016D01660000*300 AC02 6D*300 AC02 66*300 0000 \
     03CE08CC08 00*1100 040401700000 0503010000 \
     07B2168104 0261nn0000*128 0262nn0000*128 0263nn0000*128 0264nn0000*128 AC02 65*300 0000 \
     09A71F 010041000BA01F 00*4000 0AEF40CC08 02000B*1099 8A2700 01*5000 0B \
     0BF72E 010041000BF02E 5A*6000";
 
-/// The pieces of an input: their bytes with a ` / ` between them. `by 7` and bytes are pieces of 7 bytes;
-/// with `apart 7` an empty piece follows each of them.
+/// Parses the pieces of an input, separated by ` / `. `by 7` before the bytes cuts them into pieces of 7 bytes.
+/// `apart 7` also puts an empty piece after each.
 pub(crate) fn pieces_of(rt: &impl Abort, alloc: Global, text: &str) -> Vec<Vec<u8>> {
     let (word, rest) = word_of(text);
     match word {
@@ -94,7 +94,7 @@ fn add_piece(rt: &impl Abort, alloc: Global, pieces: &mut Vec<Vec<u8>>, piece: &
     }
 }
 
-/// The bytes that these words stand for.
+/// Parses the bytes of an input.
 pub(crate) fn bytes_of(rt: &impl Abort, alloc: Global, text: &str) -> Vec<u8> {
     let mut bytes = Vec::new(alloc);
     for word in input_of(text).split_whitespace() {
@@ -103,7 +103,7 @@ pub(crate) fn bytes_of(rt: &impl Abort, alloc: Global, text: &str) -> Vec<u8> {
     bytes
 }
 
-// Other inputs than these are the words themselves.
+// Returns the words of an input. Any other text is words itself.
 fn input_of(text: &str) -> &str {
     match text {
         "BAD_TYPE" => BAD_TYPE,
@@ -136,7 +136,7 @@ fn byte_of(rt: &impl Abort, pair: &[u8], turn: u32) -> u8 {
     u8::from_str_radix(pair, 16).expect(rt, "a byte")
 }
 
-// The digits of a word, which may be those of a part of a module.
+// Returns the digits of a word. It may be a range of a module.
 fn digits_of<'a>(rt: &impl Abort, word: &'a str) -> &'a str {
     let Some((name, range)) = word.split_once(':') else {
         return module_of(word);
@@ -146,12 +146,12 @@ fn digits_of<'a>(rt: &impl Abort, word: &'a str) -> &'a str {
     module_of(name).get(from..to).expect(rt, "a range")
 }
 
-// Where the digits of this byte begin.
+// The index of the first digit of this byte.
 fn place_of(rt: &impl Abort, word: &str) -> usize {
     usize::from(word.parse::<u8>().expect(rt, "a number")) * 2
 }
 
-// Other words are digits themselves.
+// Returns the digits of a module. Any other word is digits itself.
 fn module_of(word: &str) -> &str {
     match word {
         "H" => HEADER,

@@ -1,4 +1,4 @@
-//! Items as words: `param i32`, `export func 0`, `op local.get 1`.
+//! Parses items, such as `param i32`, `export func 0` and `op local.get 1`.
 
 use crate::script_words::{number_of, parts_of, unknown, word_of};
 use std::alloc::Global;
@@ -9,7 +9,7 @@ use wm_syntax::instructions::{Op, Simple};
 use wm_syntax::modules::ExportKind;
 use wm_syntax::types::{GlobalType, Limits, ValType};
 
-/// Has a sink take items: `taken`, or the word of the first refusal, and behind it the items that were left.
+/// Passes items to a sink. Returns `taken`, or the name of the first refusal and the items after it.
 pub(crate) fn given<S: Sink>(
     rt: &impl Abort,
     alloc: Global,
@@ -34,7 +34,7 @@ fn give<S: Sink>(rt: &impl Abort, sink: &mut S, answer: &mut String, words: &'st
     }
 }
 
-/// The item that these words are.
+/// Parses an item.
 pub(crate) fn item_of(rt: &impl Abort, words: &'static str) -> Item<'static> {
     let (word, rest) = word_of(words);
     match word {
@@ -49,7 +49,7 @@ pub(crate) fn item_of(rt: &impl Abort, words: &'static str) -> Item<'static> {
     }
 }
 
-// An item that has a number
+// Parses an item with a number.
 fn numbered(rt: &impl Abort, word: &str, rest: &str) -> Item<'static> {
     match word {
         "results" => Item::Results(number_of(rt, rest)),
@@ -63,7 +63,7 @@ fn numbered(rt: &impl Abort, word: &str, rest: &str) -> Item<'static> {
     }
 }
 
-// a type
+// Parses an item with a type.
 fn typed(rt: &impl Abort, word: &str, rest: &str) -> Item<'static> {
     match word {
         "param" => Item::Param(type_of(rt, rest)),
@@ -75,7 +75,7 @@ fn typed(rt: &impl Abort, word: &str, rest: &str) -> Item<'static> {
     }
 }
 
-// limits, an op, or what an export names
+// Parses an item with limits or an op, or an export.
 fn with_parts(rt: &impl Abort, word: &str, rest: &str) -> Item<'static> {
     match word {
         "import_table" => Item::ImportTable(limits_of(rt, rest)),
@@ -119,7 +119,7 @@ fn kind_of(rt: &impl Abort, word: &str) -> ExportKind {
     }
 }
 
-// The least number, and the greatest where there is one.
+// Parses limits: the minimum, and the maximum if there is one.
 fn limits_of(rt: &impl Abort, words: &str) -> Limits {
     let (min, max) = word_of(words);
     Limits {
@@ -135,7 +135,7 @@ fn greatest_of(rt: &impl Abort, word: &str) -> Option<u32> {
     Some(number_of(rt, word))
 }
 
-// The type of a global: `i32` where it is constant, `var i32` where it is not.
+// Parses the type of a global: `i32` if it is constant, `var i32` if it is mutable.
 fn global_of(rt: &impl Abort, words: &str) -> GlobalType {
     let (var, word) = words.split_once(' ').unwrap_or(("", words));
     GlobalType {
