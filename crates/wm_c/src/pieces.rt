@@ -75,8 +75,8 @@ fn begin(alloc: Global, v: &mut Handle, options: &Options) -> u32
     }
 }
 
-/// Takes the next piece. Returns 0 if nothing is refused so far, 1 or 4 for a refusal, and 2 if the handle is empty
-/// or its input was finished.
+/// Takes the next piece. Returns 0 if nothing is refused so far, and 1 or 4 for a refusal. Returns 2 if the handle is
+/// empty or its input was finished.
 #[unsafe(no_mangle)]
 pub extern "C" fn wmod_feed(alloc: Global, v: &mut Handle, piece: &[u8]) -> u32
     ensures taken { result ≢ 2 → (p : AProfile) (limit : ℕ) (q : APolicy) (before : List ℕ)

@@ -78,8 +78,8 @@ fn follow<R: Print + Eprint + AllocGlobal, I: Read + Drop>(
     name: &str,
     reader: I,
 ) -> Status
-    // The status is right for the bytes that the reader gives, by the action, the profile, the limit, the policy
-    // and the spellings of this line. No contract of std states what standard output got.
+    // The status is right for the bytes that the reader gives and for this line. No contract of std states what
+    // standard output got.
     ensures { result ≢ Status.Io → result ≢ Status.Memory → IfSome (I.remaining reader)
         (λ input. (left : Option (List ℕ)) × (text : List ℕ)
         × IsRightFor line.now.action line.now.profile line.now.limit line.now.policy line.now.spellings input

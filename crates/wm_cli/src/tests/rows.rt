@@ -99,8 +99,8 @@ fn wrong(alloc: Global, command: &str) -> Result<String, Fail> {
     }
 }
 
-/// Returns the exit status and the output, or a message if a read asked for more than 4,096 bytes or the output was
-/// not flushed once at its end.
+/// Returns the exit status and the output. Returns a message if a read asked for more than 4,096 bytes, or if the
+/// output was not flushed once at its end.
 fn tell(alloc: Global, line: &Line, input: &[u8], most: usize) -> Result<String, Fail> {
     let task = Task::of_line(alloc, line, input);
     let (answer, reader, writer) = follow(&task, Mode::by(most), Mode::by(usize::MAX));
