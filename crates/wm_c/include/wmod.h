@@ -124,10 +124,10 @@ typedef struct wmod_answer {
 /* Judges an input that is in memory as a whole. Returns the answer's status: WMOD_MISUSE if the profile is not 1 to 4,
  * or the limit is above WMOD_LIMIT_MOST.
  *
- * Proved: WMOD_VALID comes only for valid modules of the profile within the limit, and WMOD_REFUSED for none of these.
- * With either status, the bytes alone determine the refusal, the offset and the figures. The meaning of a refusal's
- * name is proved as far as docs/REFUSALS.md says. WMOD_MISUSE comes if and only if the profile or the limit is out of
- * range. Tested, and not proved: WMOD_MEMORY comes only if memory was refused. */
+ * Proved: WMOD_VALID comes only for valid modules of the profile within the limit, and WMOD_REFUSED only for other
+ * inputs. With either status, the bytes alone determine the refusal, the offset and the figures. The meaning of a
+ * refusal's name is proved as far as docs/REFUSALS.md says. WMOD_MISUSE comes if and only if the profile or the limit
+ * is out of range. Tested, and not proved: WMOD_MEMORY comes only if memory was refused. */
 uint32_t wmod_validate(const uint8_t *bytes, size_t length, uint32_t profile, uint64_t limit, wmod_answer *answer);
 
 /* The options of a call. Start from the defaults, so that a field added later has its default too:

@@ -1,4 +1,4 @@
--- What was made stands in the buffer, or is longer, or was refused.
+-- Lemmas about conversions: the bytes are in the buffer, or are longer than it, or the input was refused.
 use Rattle.std.proofs.Common.{◌≡◌, ◌<◌, ◌≤◌, ℕ, List, Bool, true, false, Err, nat_lt, length, inl, inr, refl, sym, ap, subst, arith, ◌⊎◌}
 use Rattle.std.proofs.lemmas.Bool.{ltb-true, ltb-false}
 use Rattle.wm_syntax.specs.declared.profile.Profile.{Profile}
@@ -16,14 +16,14 @@ use Rattle.wm_c.specs.declared.output.Unbuilt.{Unbuilt}
 use Rattle.wm_c.specs.Options.{Asking, Asks, spellings_of}
 use Rattle.wm_c.proofs.Statuses.{not_memory, one_or_four, refused_memory, unbuilt_length, unbuilt_memory, unbuilt_status}
 
--- The relations of a conversion are named alike in all that follows.
+-- The types of `Of` and of `Refuses` of a conversion.
 abbrev pub Relation : Type 1
 Relation = Profile → ℕ → Policy → Module → Type 0
 
 abbrev pub Refusing : Type 1
 Refusing = Profile → ℕ → Policy → Output → Type 0
 
--- a module that was asked for, and what is to be written of it
+-- The text is the bytes to write of a module for which `Of` holds.
 abbrev pub Makes : Relation → (Module → List ℕ) → Options → List ℕ → Type 0
 Makes Of form o text = Asking o (λ p limit q. (m : Module) × Of p limit q m × (text ≡ form m))
 
@@ -73,7 +73,7 @@ given Of form R o text before after out makes whole room = by (nat_lt (length be
         let w = whole (ltb-false (length before) (length text) e) in
         subst (λ (x : Output). Converted Of form R o before after x) (sym w.0) (fits Of form R o text before after makes w.1)
 
--- What was made in one list was lent as another, and what became of it was handed on.
+-- The bytes made as `items` are borrowed as `text`, and the buffer and the output are handed on.
 pub converted : (Of : Relation) (form : Module → List ℕ) (R : Refusing) (o : Options) (items text before new after : List ℕ) (result out : Output) → Makes Of form o items
     → text ≡ items → (length text ≤ length before → (result ≡ wrote (length text)) × Fills text before new)
     → (length before < length text → (result ≡ no_room (length text)) × (new ≡ before)) → after ≡ new → out ≡ result
@@ -83,7 +83,7 @@ converted Of form R o items text before new after result out makes lent whole ro
     (subst (λ (x : List ℕ). Converted Of form R o before x result) (sym is_new)
     (given Of form R o text before new result (subst (λ (t : List ℕ). Makes Of form o t) (sym lent) makes) whole room))
 
--- nothing was made, and the output is a refusal's, also one for want of memory
+-- The output is that of a refusal, `Memory` included, and nothing was written.
 pub refusing : (Of : Relation) (form : Module → List ℕ) (R : Refusing) (o : Options) (before after : List ℕ) (out : Output) → ((n : ℕ) → out.status ≡ n → (n ≡ 1) ⊎ (n ≡ 4))
     → (out.status ≡ 4 → IsMemory out.why × (out.length ≡ 0)) → Asking o (λ p limit q. R p limit q out) → after ≡ before → Converted Of form R o before after out
 refusing Of form R o before after out statuses memory refused same = record {
@@ -124,7 +124,7 @@ misusing Of form R o before after out is never same =
       untouched = λ n. same;
     })
 
--- a refusal of a module's bytes
+-- A right refusal of a module's bytes is an end of their conversion.
 pub refused_from : (form : Module → List ℕ) (o : Options) (input before after : List ℕ) (r : Refusal) (out : Output)
     → Asking o (λ p limit q. IsRight p limit q input (Err r)) → out ≡ refuses r → after ≡ before → ConvertedFrom form o input before after out
 refused_from form o input before after r out (p, a, right) is same =
@@ -132,7 +132,7 @@ refused_from form o input before after r out (p, a, right) is same =
     (refusing (λ p limit q m. Loads p limit q input m) form (IsRefused input) o before after (refuses r) (one_or_four r.why) (λ e. (refused_memory r.why e, refl))
     (p, a, (r, not_memory r.why, right, refl)) same)
 
--- a refusal of a text
+-- A reason for which no binary is given for a text is an end of its conversion.
 pub unbuilt_from : (o : Options) (input before after : List ℕ) (u : Unbuilt) (out : Output)
     → Asking o (λ p limit q. IsUnbuilt (spellings_of o) input p limit q u) → out ≡ unbuilt u → after ≡ before → ConvertedText o input before after out
 unbuilt_from o input before after u out (p, a, why) is same =
@@ -140,7 +140,7 @@ unbuilt_from o input before after u out (p, a, why) is same =
     (refusing (Builds (spellings_of o) input) canon (λ p limit q out. (u : Unbuilt) × IsUnbuilt (spellings_of o) input p limit q u × (out ≡ unbuilt u)) o before after (unbuilt u)
     (unbuilt_status u) (λ e. (unbuilt_memory u e, unbuilt_length u)) (p, a, (u, why, refl)) same)
 
--- the canonical binary of a module is no longer than the bytes that spell it
+-- A buffer as long as the input is enough for the canonical binary.
 pub enough : (o : Options) (input before after : List ℕ) (out : Output) → ConvertedFrom canon o input before after out
     → length input ≤ length before → out.status ≡ 5 → ⊥
 enough o input before after out c room five = by (c.room five)

@@ -1,4 +1,4 @@
--- What a handle owns, by whether it is null. Assumes `Logic`.
+-- The ownership of a handle, for a null one and for one with a session. Assumes `Logic`.
 use Rattle.std.proofs.Common.{◌≡◌, ℕ, List, ◌∷◌, refl, Option, None, Some, take, drop, take-append-drop, subst}
 use seplogic.Ra.Ura.{Ura}
 use mir.Raw.{raw as bare}
@@ -20,7 +20,7 @@ module _ (R : RattleType) {M : Type 1} {𝓤 : Ura M} {𝓛 : Logic 𝓤} {K : T
       in_a_block t p (λ p. box_owns freed_by_heap R p x) (fst∗ 𝓤 (never 𝓤) (sem 𝓛 (freed_by_heap (bare (lone R.mir)) null_ptr))) (λ b o e. one x b o refl e)
 
 module _ {M : Type 1} {𝓤 : Ura M} {𝓛 : Logic 𝓤} {K : Type 0} {Γ : List (Item 𝓤)} {G : Goal 𝓤 𝓛.H} where
-  -- a fact is learned from the first n entries, which stay
+  -- a fact follows from the first n entries, which are kept
   pub learns : K → (n : ℕ) (φ : Type 0) → ent 𝓤 (⋆ 𝓛 (take n Γ)) (fact 𝓤 φ) → (φ → Seq K 𝓛 Γ G) → Seq K 𝓛 Γ G
   learns t n φ shown k = record {
     prf = fact_use 𝓤 φ (via 𝓤 (⋆ 𝓛 (take n Γ)) (subst (λ (Δ : List (Item 𝓤)). ent 𝓤 (⋆ 𝓛 Δ) (⋆ 𝓛 (take n Γ))) (take-append-drop n Γ)

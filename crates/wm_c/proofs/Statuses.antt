@@ -1,4 +1,4 @@
--- What the number of an answer's status says.
+-- Lemmas about the numbers of statuses.
 use Rattle.std.proofs.Common.{◌≡◌, ◌≢◌, ◌⊎◌, ℕ, List, Result, Ok, Err, inl, inr, refl, sym, ap, subst, arith, ◌∙◌}
 use Rattle.wm_syntax.specs.declared.why.Why.{Why}
 use Rattle.wm_syntax.specs.declared.why.Why.TheVariants.{Memory}
@@ -25,7 +25,7 @@ pub not_memory : (w : Why) → status_code w ≡ 1 → w ≢ Memory
 not_memory w e h =
     let clash : 4 ≡ 1 = subst (λ (v : Why). status_code v ≡ 1) h e in absurd (omega (arith, clash))
 
--- a refusal's status is 1, but for memory
+-- The status of a refusal is 1, except for `Memory`.
 cases : (w : Why) → (status_code w ≡ 1) ⊎ (w ≡ Memory)
 cases why.Memory = inr refl
 cases _ = inl refl
@@ -40,7 +40,7 @@ text_cases : (w : TextWhy) → (text_status_code w ≡ 1) ⊎ (w ≡ text.Memory
 text_cases text.Memory = inr refl
 text_cases _ = inl refl
 
--- so are those of a text
+-- The status for a text without a binary is 1 or 4.
 pub unbuilt_status : (u : Unbuilt) (n : ℕ) → (unbuilt u).status ≡ n → (n ≡ 1) ⊎ (n ≡ 4)
 unbuilt_status (TooLong at) n e = inl (sym e)
 unbuilt_status (Text r) n e = elim (text_cases r.why) [
@@ -54,7 +54,7 @@ unbuilt_status (Check check.Memory) n e = inr (sym e)
 not_four : ◌≡◌ {A = ℕ} 1 4 → ⊥
 not_four e = omega (arith, e)
 
--- status 4 is of memory alone
+-- Status 4 comes only for `Memory`.
 pub refused_memory : (w : Why) → status_code w ≡ 4 → IsMemory (why_code w)
 refused_memory w e = elim (cases w) [
   | inl one ↦ absurd (not_four (sym one ∙ e))
@@ -71,7 +71,7 @@ unbuilt_memory (Check (check.Refused r)) e = refused_memory r.why e
 unbuilt_memory (Check check.TooLarge) e = absurd (not_four e)
 unbuilt_memory (Check check.Memory) e = inl refl
 
--- a text that has no binary has no length of one
+-- The length is 0 for a text without a binary.
 pub unbuilt_length : (u : Unbuilt) → (unbuilt u).length ≡ 0
 unbuilt_length (TooLong at) = refl
 unbuilt_length (Text r) = refl
@@ -85,7 +85,7 @@ not_none w e = elim (one_or_four w 0 e) [
   | inr four ↦ absurd (omega (arith, four))
 ]
 
--- a refusal is answered for no accepted input
+-- Status 1 comes only for an input that is not accepted.
 pub refused_right : (p : Profile) (limit : ℕ) (q : Policy) (input : List ℕ) (r : Result Summary Refusal) (a : Answer)
     → a ≡ in_numbers r → IsRight p limit q input r → a.status ≡ 1 → Accepted p limit q input → ⊥
 refused_right p limit q input (Ok s) a e right is_one =
@@ -93,14 +93,14 @@ refused_right p limit q input (Ok s) a e right is_one =
 refused_right p limit q input (Err r) a e right is_one =
     (right.0 (not_memory r.why (sym (ap (λ (x : Answer). x.status) e) ∙ is_one))).0
 
--- valid is answered for accepted inputs alone
+-- Status 0 comes only for an accepted input.
 pub valid_right : (p : Profile) (limit : ℕ) (q : Policy) (input : List ℕ) (r : Result Summary Refusal) (a : Answer)
     → a ≡ in_numbers r → IsRight p limit q input r → a.status ≡ 0 → Accepted p limit q input
 valid_right p limit q input (Ok s) a e right is_none = right.0
 valid_right p limit q input (Err r) a e right is_none =
     absurd (not_none r.why (sym (ap (λ (x : Answer). x.status) e) ∙ is_none))
 
--- what holds of what was asked for holds as the options ask
+-- A property of the parsed options holds for what the options ask for.
 pub as_asked : (o : Options) (p : Profile) (limit : ℕ) (q : Policy) (s : Spellings)
     → Asks o p × (limit ≡ o.max_bytes) × (q ≡ policy_of o) × (s ≡ spellings_of o) → (P : Profile → ℕ → Policy → Type 0) → P p limit q → Asking o P
 as_asked o p limit q s asks P x =

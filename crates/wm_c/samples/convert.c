@@ -1,5 +1,5 @@
 /* Converts standard input as the first argument says, `canon`, `show` or `build`, and prints the output of this action
- * of `wmod`:
+ * of `wmod`.
  *
  *   cc convert.c -I crates/wm_c/include crates/wm_c/out/libwm_c.a $KIT/c/liblibc_c.a
  */

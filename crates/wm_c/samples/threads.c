@@ -1,5 +1,5 @@
 /* Judges one module of at most a megabyte in two threads at once, each with its own handle and length of pieces. If
- * both agree, prints `valid` or `refused at N: NAME`:
+ * both agree, prints `valid` or `refused at N: NAME`.
  *
  *   cc -pthread threads.c $(pkg-config --cflags --libs wmod) -o threads
  */

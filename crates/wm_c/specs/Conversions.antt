@@ -102,8 +102,8 @@ pub record Builds (s : Spellings) (input : List ℕ) (p : Profile) (limit : ℕ)
   pub within : Within q m
 
 -- Why no canonical binary is given for a module. `Refused`: the module is not valid or not within the policy. The
--- refusal is that of its canonical binary, other than `Memory`, and its meaning holds. `TooLarge`: a section would
--- be too large. `Memory` may come for any module.
+-- refusal is that of its canonical binary under the limit 2^62, other than `Memory`, and its meaning holds.
+-- `TooLarge`: a section would be too large. `Memory` may come for any module.
 abbrev pub IsUnchecked : Profile → Policy → Module → CheckFault → Type 0
 IsUnchecked p q m (check.Refused r) = (Valid m → Within q m → ⊥) × (r.why ≢ why.Memory)
     × (verdict p (2 ^ 62) q (canon m) ≡ Err r) × (r.at ≤ length (canon m)) × Meaning p (2 ^ 62) q (canon m) r

@@ -1,4 +1,4 @@
--- What the parser of the command makes of words.
+-- Lemmas about `clap`'s parse of the arguments, and about wrong values.
 use Rattle.std.proofs.Common.{◌≡◌, ◌∙◌, ℕ, inl, inr, refl, subst, sym, ap, codes, true, [], List, Option, None, Some}
 use Rattle.std.specs.Prelude.{◌≢◌, IfSome, MatchOption, option_map}
 use Rattle.std.proofs.lemmas.Option.{IfSome_then}
@@ -25,7 +25,7 @@ simple_and_free : is_simple_and_free wmod ≡ true
 unfolding clap_on_literals
 simple_and_free = refl
 
--- words that the parser takes: the getters of its matches read what the command gives each argument
+-- For words that `clap` accepts, the getters of its matches return the value of each argument.
 pub taken : (a : App) (m : ArgMatches) (words : List Text) → a ≡ wmod → HasMatchesOf a words m → (is_simple_and_free a ≡ true → fault_of a words ≡ [])
     → (fault_of wmod words ≡ []) × ((id : Text) → first_value (found_of m) id ≡ word_of words id)
 taken a m words is matches none =
@@ -34,11 +34,11 @@ taken a m words is matches none =
       λ id. first_value-rows (found_of m) id ∙ ap (first_of id) rows,
     )
 
--- words that the parser refuses: its error has one of the kinds that the command gives for them
+-- For words that `clap` refuses, its error has one of the kinds of fault that the command has for them.
 pub refused : (a : App) (words : List Text) (e : Error) → a ≡ wmod → (is_simple_and_free a ≡ true → HasKind (fault_of a words) e) → HasKind (fault_of wmod words) e
 refused a words e is kinds = subst (λ b. HasKind (fault_of b words) e) is (kinds (ap is_simple_and_free is ∙ simple_and_free))
 
--- which word is wrong depends on each argument's word alone
+-- Whether a value is wrong depends only on the value of each argument.
 pub wrong_along : (word other : Text → Option Text) → ((id : Text) → word id ≡ other id) → (w : WrongWord) → IsWrong word w → IsWrong other w
 wrong_along word other same (wrong.Action text) h = (sym (same _) ∙ h.0, h.1)
 wrong_along word other same (wrong.Profile text) h = (sym (same _) ∙ h.0, h.1)
@@ -51,15 +51,15 @@ wrong_along word other same (wrong.OldWords text) h = (sym (same _) ∙ h.0, sym
 pub none_along : (word other : Text → Option Text) → ((id : Text) → word id ≡ other id) → NoneIsWrong word → NoneIsWrong other
 none_along word other same none w h = none w (wrong_along other word (λ id. sym (same id)) w h)
 
--- the word of ACTION, where there is one, names an action
+-- The value of ACTION, if there is one, names an action.
 abbrev NamesAction : Option Text → Type 0
 NamesAction said = IfSome said (λ text. (a : Action) × (text ≡ action_name a))
 
--- the word of ACTION, where there is one, is `build`
+-- The value of ACTION, if there is one, is `build`.
 abbrev NamesBuild : Option Text → Type 0
 NamesBuild said = IfSome said (λ text. text ≡ action_name Build)
 
--- no word is wrong where each says something
+-- No value is wrong if each one is right.
 pub none_wrong : (word : Text → Option Text) → IfSome (word (codes "ACTION")) (λ text. (a : Action) × (text ≡ action_name a))
     → ((p : Profile) × IsProfile (word (codes "profile")) p) → ((n : ℕ) × IsLimit (word (codes "limit")) n) → ((q : Policy) × IsPolicy word q)
     → (Stands (word (codes "old-words")) → IfSome (word (codes "ACTION")) (λ text. text ≡ action_name Build)) → NoneIsWrong word
@@ -75,23 +75,23 @@ none_wrong word action profile limit policy flag (wrong.MaxOpen w) h =
     h.1 policy.0.depth (subst (λ o. IsMost o policy.0.depth) h.0 policy.1.depth)
 none_wrong word action profile limit policy flag (wrong.OldWords w) h = h.2 (subst NamesBuild h.1 (flag h.0))
 
--- a fault other than of memory is one that the command gives
+-- A fault other than out of memory is one of the command's kinds.
 pub faulty : (kinds : Kinds) (e : Error) → HasKind kinds e → kind_of e ≢ kind.OutOfMemory → kinds ≢ []
 faulty kinds e (inl memory) other none = other memory
 faulty kinds e (inr among) other none = subst (IsAmong (kind_of e)) none among
 
--- what follows from what a clause says of both kinds of answer
+-- `MatchOption` is monotone in both cases.
 pub match_weaker : {X : Type 0} (o : Option X) {N M : Type 0} {P Q : X → Type 0} → MatchOption o N P → (N → M) → ((x : X) → P x → Q x) → MatchOption o M Q
 match_weaker None h n s = n h
 match_weaker (Some x) h n s = s x h
 
--- what is right for the bytes that a reader has left is right for those that are held at the path which it was opened by
+-- A property of the bytes that a reader has left also holds of the bytes at the path by which it was opened.
 pub opened : {A B : Type 0} (path : Option A) (p : A) (held : A → Option B) (left : Option B) (P : B → Type 0) → Some p ≡ path
     → IfSome (held p) (λ bytes. left ≡ Some bytes) → IfSome left P → IfSome path (λ q. IfSome (held q) P)
 opened path p held left P is gives right =
     let at : IfSome (held p) P = IfSome_then (held p) gives (λ bytes e. subst (λ o. IfSome o P) e right) in
     subst (λ o. IfSome o (λ q. IfSome (held q) P)) is at
 
--- where no limit is given there is one
+-- An absent `--limit` gives a limit.
 pub default_limit : {S : Type 0} (text : Option S) (f : S → Text) (said : Option Text) → option_map f text ≡ said → text ≡ None → (n : ℕ) × IsLimit said n
 default_limit text f said e is = (4294967295, subst (λ o. IsLimit o 4294967295) (ap (option_map f) (sym is) ∙ e) refl)

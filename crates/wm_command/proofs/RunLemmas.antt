@@ -1,4 +1,4 @@
--- A refusal of an input is an outcome of each action.
+-- Lemmas about the output of actions: the output and the status are right for the input, or for its bytes read so far.
 use Rattle.std.proofs.KnownBytes.{Appends-trans}
 use Rattle.std.proofs.Math.Seq.{take-length}
 use Rattle.std.proofs.Math.Logic.{∥∥₁_elim}
@@ -34,7 +34,7 @@ use Rattle.wm_rules.specs.Validating.{NeverAccepted}
 use Rattle.wm_rules.specs.Meanings.{Meaning}
 use Rattle.wm_rules.specs.inner.Validators.{verdict}
 
--- an action on the bytes of a module
+-- The action reads a binary.
 abbrev pub IsJudged : Action → Type 0
 IsJudged Build = ⊥
 IsJudged _ = Unit {0}
@@ -74,7 +74,7 @@ out_of_refusal action judged p limit q s (Some input) left r why j =
       | inr e ↦ inl (e.0, refused_out action judged p limit q s input r why e.1 (omega (arith, j.place)) (j.same why) (j.means why))
     ]
 
--- where an input is refused, the line of its refusal is an output and right for what was read
+-- The line of an input's refusal is an output of the action, and right for the bytes read.
 pub out_of_fault : {A : Type 0} (IsRight : List ℕ → Option (List ℕ) → A → Type 0) (action : Action) → IsJudged action → (p : Profile) (limit : ℕ) (q : Policy) (s : Spellings) (all left : Option (List ℕ)) (f : FromFault)
     → AnswersSource IsRight p limit q all left (Err f) → (r : Refusal) → f ≡ fault.Refused r → r.why ≢ Memory
     → IsOutput action (refusal_line r.at r.why) status.Refused
@@ -84,7 +84,7 @@ out_of_fault IsRight action judged p limit q s all left f answers r is why = (
   out_of_refusal action judged p limit q s all left r why (subst (λ z. AnswersSource IsRight p limit q all left (Err z)) is answers),
 )
 
--- an action that writes this of a module that it loaded
+-- The action writes `form m` for a module m that it loaded.
 pub record WritesOf (action : Action) (form : Module → List ℕ) : Type 0 where
   pub out : (p : Profile) (limit : ℕ) (q : Policy) (s : Spellings) (input : List ℕ) (m : Module) → Accepted p limit q input → Loads p limit q input m → OutOf action p limit q s input (form m) status.Done
   pub report : (m : Module) → IsReport action (form m)
@@ -97,7 +97,7 @@ pub writes_layout : (action : Action) → action ≡ Show → WritesOf action la
 writes_layout action is =
     subst (λ a. WritesOf a layout) (sym is) (record { out = λ p limit q s input m a l. inl (a, (m, l, refl), refl); report = λ m. (m, refl) })
 
--- a module that was loaded, and what is written of it
+-- The bytes written for a loaded module are right for its input.
 loaded_out : (action : Action) (form : Module → List ℕ) → WritesOf action form → (p : Profile) (limit : ℕ) (q : Policy) (s : Spellings) (all left : Option (List ℕ)) (c : Checked)
     → IfSome all (λ input. LoadedInput p limit q input left c)
     → IfSome all (λ input. IsRightFor action p limit q s input left (form (value_of (module_in c))) status.Done)
@@ -113,11 +113,11 @@ pub out_of_loaded : (action : Action) (form : Module → List ℕ) → WritesOf 
     × IfSome all (λ input. IsRightFor action p limit q s input left (form (value_of (module_in c))) status.Done)
 out_of_loaded action form w p limit q s all left c j = (inl (w.report (value_of (module_in c)), refl), loaded_out action form w p limit q s all left c j)
 
--- what was loaded is not too large
+-- No section of a loaded module is too large.
 pub loaded_fits : (m : Module) → ∥ IsLoaded m ∥₁ → (¬ Fits m) → ⊥
 loaded_fits m l n = ∥∥₁_elim l (λ x y. absurd x) (λ h. n (spelled_fits h.profile m h.bytes h.loads.spelled.1))
 
--- all of a text went out, and then the writer was flushed
+-- A text was written whole, and then the writer was flushed.
 take-nil : (n : ℕ) → ◌≡◌ {A = List ℕ} (take n []) []
 take-nil zero = refl
 take-nil (suc n) = refl
@@ -129,20 +129,20 @@ flushed text wanted old mid new true on result p q =
     let all : Appends old new text = subst (Appends old new) (append-nil text) (Appends-trans old mid new text [] p (subst (Appends mid new) (take-nil q.0.0) q.0.2)) in
     ((length text, omega arith, subst (Appends old new) (sym (take-length text)) all), q.1)
 
--- a beginning of a text went out
+-- The writer failed after a prefix of a text.
 pub unwritten : (text : List ℕ) (wanted : Status) (old new : Option (List ℕ)) (failed on : Bool) → failed ≡ true
     → (n : ℕ) × (n ≤ length text) × Appends old new (take n text) → IsAnswered text wanted old new failed on status.Io
 unwritten text wanted old new true on e out = (out, refl)
 unwritten text wanted old new false on e out = absurd cc
 
--- what was read is longer than the limit
+-- The bytes read are longer than the limit.
 pub longer : (limit : ℕ) (all left : Option (List ℕ)) (read : List ℕ) → Consumes all left read → limit < length read
     → IfSome all (λ input. (read rest : List ℕ) × (input ≡ read ++ rest) × (limit < length read))
 longer limit None left read c lt = tt
 longer limit (Some input) None read c lt = absurd c
 longer limit (Some input) (Some rest) read c lt = (read, rest, c, lt)
 
--- what was read is all of it
+-- The bytes read are the whole input.
 pub read_whole : (limit : ℕ) (all left : Option (List ℕ)) (read : List ℕ) → Consumes all left read → length read ≤ limit → IsAtEnd left
     → IfSome all (λ input. IsAtEnd left × (read ≡ input) × (length input ≤ limit))
 read_whole limit None left read c le e = tt
@@ -151,7 +151,7 @@ read_whole limit (Some input) (Some rest) read c le e =
     let is : input ≡ read = c ∙ ap (λ z. read ++ z) e ∙ append-nil read in
     (e, sym is, subst (λ z. length z ≤ limit) (sym is) le)
 
--- ---- of a text
+-- ---- texts
 
 module_output : (p : Profile) (q : Policy) (m : Module) (written : List ℕ) (status : Status) → ModuleOut p q m written status → IsOutput Build written status
 module_output p q m written status (inl (v, w, f, e, s)) = inl ((m, e), s)
@@ -162,7 +162,7 @@ pub text_output : (p : Profile) (q : Policy) (s : Spellings) (text written : Lis
 text_output p q s text written status (inl (m, t, out)) = module_output p q m written status out
 text_output p q s text written status (inr (n, (place, why, w, le, tells, e), is)) = inr (inr (inl (place, why, w, e)), is)
 
--- what was answered of a text that was read whole, and of one that is longer than the limit
+-- The output for a text that was read whole is right. The refusal of a text longer than the limit is right too.
 pub right_text : (p : Profile) (limit : ℕ) (q : Policy) (s : Spellings) (all left : Option (List ℕ)) (read written : List ℕ) (status : Status)
     → IfSome all (λ input. IsAtEnd left × (read ≡ input) × (length input ≤ limit)) → TextOut p q s read written status
     → IfSome all (λ input. IsRightFor Build p limit q s input left written status)

@@ -25,6 +25,7 @@ use Rattle.wm_command.specs.Refused.{module_line, refusal_line, text_line, too_l
 -- 2. m fits, but is not valid or not within the policy: the refusal of its canonical binary other than `Memory`,
 --    with its meaning, and `Refused`.
 -- 3. A section of m does not fit its size field, so m has no canonical binary: `too_large_line`, and `Refused`.
+-- The canonical binary is judged under the limit 2^62.
 abbrev pub ModuleOut : Profile → Policy → Module → List ℕ → Status → Type 0
 ModuleOut p q m written status =
     (Valid m × Within q m × Fits m × (written ≡ canon m) × (status ≡ Done))

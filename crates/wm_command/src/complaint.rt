@@ -24,8 +24,8 @@ pub fn complain_of<R: Eprint, D: Display>(rt: &R, what: &D, file: &str, cause: i
     let _ = eprintln!(rt; "wmod: {file}: {cause}");
 }
 
-/// Reports why these arguments describe no line. `clap` prints its own faults, and help and version. Returns
-/// `Ok(Io)` if standard output fails for these, and the fault otherwise.
+/// Reports why these arguments describe no line. `clap` prints its own faults, help and the version. Returns `Ok(Io)`
+/// if standard output fails for help or the version, and the fault otherwise.
 pub fn explain_fault<R: Print + Eprint + AllocGlobal>(
     rt: &R,
     words: &[String],

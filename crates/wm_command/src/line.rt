@@ -291,8 +291,8 @@ fn read(alloc: Global, matches: &ArgMatches<'_>) -> Result<Line, LineFault>
     })
 }
 
-/// Parses the arguments, the first of which is the program's name. Fails with `Parser` if `clap` refuses them,
-/// with `Words` if a value is wrong, and with `Memory` if memory is refused.
+/// Parses the arguments, the first of which is the program's name. Fails with `Parser` if `clap` refuses them, or if
+/// they ask for help or the version. Fails with `Words` if a value is wrong, and with `Memory` if memory is refused.
 pub fn line<S: AsStr>(alloc: Global, words: &[S]) -> Result<Line, LineFault>
     // `clap` accepts the arguments, and they describe this line.
     ensures ok { IfOk result (λ l. (fault_of wmod (map S.text words.now) ≡ [])

@@ -1,4 +1,4 @@
--- A sink that does nothing at an item takes any item of such items.
+-- A sink that accepts each item without a change takes all items.
 use Rattle.std.proofs.Common.{◌≡◌, List, [], ◌∷◌, Result, Ok, Err, IfErr, refl, ◌∙◌, ap}
 use Rattle.wm_syntax.specs.declared.why.Why.{Why}
 use Rattle.wm_syntax.specs.declared.why.Why.TheVariants as why
@@ -14,14 +14,14 @@ taken_quietly after h quiet [] u = refl
 taken_quietly after h quiet (x ∷ []) u = quiet x
 taken_quietly after h quiet (x ∷ y ∷ xs) u = all_quiet after h quiet (x ∷ y ∷ xs)
 
--- the same of a sink that may run out of memory
+-- A sink that accepts each item without a change, or refuses it as `Memory`, takes all items unless memory is refused.
 pub quiet_or_memory : {H U : Type 0} (after : H → Item → Result H Why) (h : H) → ((x : Item) → after h x ≡ Ok h) → (xs : List Item) (r : Result U Why) → IfErr r (λ w. w ≡ why.Memory) → Took after h xs r h
 quiet_or_memory after h quiet xs (Ok u) m = taken_quietly after h quiet xs u
 quiet_or_memory after h quiet [] (Err w) m = λ ne. absurd (ne m)
 quiet_or_memory after h quiet (x ∷ []) (Err w) m = λ ne. absurd (ne m)
 quiet_or_memory after h quiet (x ∷ y ∷ xs) (Err w) m = λ ne. absurd (ne m)
 
--- where memory may run out anywhere, and where it did not
+-- `RunsOut` holds if memory may run out at any item, and if the sink refused nothing.
 pub any_room : {H U : Type 0} (h : H) (xs : List Item) (r : Result U Why) → RunsOut (λ (g : H) (x : Item). Unit {0}) h xs r
 any_room h [] r = tt
 any_room h (x ∷ []) (Ok u) = tt

@@ -1,4 +1,4 @@
--- What was loaded is not too large.
+-- A loaded module is not too large.
 use Rattle.std.proofs.Common.{Err, ap, subst, sym}
 use Rattle.wm_rules.specs.inner.Loaders.{module_in}
 use Rattle.wm_syntax.specs.Values.{value_of}

@@ -1,4 +1,4 @@
--- What is said of the bytes whatever comes after them is said of them.
+-- A refusal that is right for all continuations of the bytes is right for the bytes.
 use Rattle.std.proofs.Common.{◌≡◌, ◌++◌, List, ℕ, [], Result, Err, append-nil, subst}
 use Rattle.wm_machine.specs.declared.refusal.Refusal.{Refusal}
 use Rattle.wm_rules.specs.declared.checker.Summary.{Summary}

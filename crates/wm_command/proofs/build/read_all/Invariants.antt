@@ -2,7 +2,7 @@ use Rattle.std.proofs.Common.{◌≡◌, ◌≤◌, false, length}
 use Rattle.std.specs.Io.KnownBytes.{Consumes}
 use Rattle.wm_command.proofs.build.read_all.Given as goal
 
--- the bytes read so far, at least one a turn
+-- Each iteration has read at least one byte.
 abbrev pub invariant-loop : goal.invariant-loop
 invariant-loop g l =
     (l.counter ≤ length l.all.items) × (length l.all.items ≤ l.fn.limit)

@@ -8,7 +8,7 @@ use Rattle.wm_command.specs.declared.arguments.LineFault.{LineFault}
 use Rattle.wm_command.specs.declared.arguments.LineFault.TheVariants.{Memory, Words}
 use Rattle.wm_command.proofs.line.line.Goals as goal
 
--- what the words say depends on each argument's word alone
+-- The line depends only on the value of each argument.
 says_along : (word other : Text → Option Text) → ((id : Text) → word id ≡ other id) → (l : Line) → Says word l → Says other l
 says_along word other same l says = record {
   action = sym (same (codes "ACTION")) ∙ says.action;

@@ -1,4 +1,4 @@
--- What was found is what is told.
+-- The output of each action is right for its input.
 use Rattle.std.proofs.Common.{Err, IfSome, ap, subst, sym}
 use Rattle.wm_rules.specs.Reading.{LoadedInput, ValidInput}
 use Rattle.wm_rules.specs.inner.Loaders.{module_in}

@@ -1,4 +1,4 @@
--- What was loaded is not too large, and what was written is flushed.
+-- A loaded module is not too large, and the bytes written are flushed.
 use Rattle.std.proofs.Common.{ap, Err, subst}
 use Rattle.wm_syntax.specs.Values.{value_of}
 use Rattle.wm_write.specs.Canon.{canon}

@@ -1,4 +1,4 @@
--- What was printed is flushed.
+-- The printed text is flushed.
 use Rattle.wm_command.proofs.RunLemmas.{flushed}
 use Rattle.wm_command.proofs.run.write_text.Goals as goal
 

@@ -1,4 +1,4 @@
--- `take` tests the pointer, and has what the handle owned.
+-- `take` tests the pointer, and returns the session that the handle owned.
 use Rattle.std.proofs.Common.{◌≡◌, List, [], ◌∷◌, ◌++◌, refl, sym, ap, ◌∙◌, subst, lit<}
 use mir.Val.{Val, vptr, vcons, vnil}
 use base.Logic.{SProp, ent, emp, id⊢}
