@@ -9,7 +9,7 @@ use std::alloc::Global;
 use std::io;
 use wm_rules::Summary;
 
-/// The length from which on the answer to a text gives only the length of its binary, and the binary is not cut.
+/// The most bytes of a text's binary that the answer writes in full and that is cut. A longer one gives its length.
 const LONGEST: usize = 2048;
 
 /// Returns the figures of a module's bodies.

@@ -23,8 +23,8 @@ fn is_same_in_pieces(
     )
 }
 
-/// Returns whether a binary is valid, or `None` if a test of it fails: the pieces change the answer, or the module does
-/// not survive its own text.
+/// Returns whether a binary is valid, or `None` if a test of it fails: the validator and the loader differ, the pieces
+/// change the answer, or the module's text does not give it back.
 fn is_valid(alloc: Global, row: &Row, binary: &[u8], place: usize) -> io::Result<Option<bool>> {
     let Some(whole) = judge(alloc, row, &[binary])? else {
         return Ok(None);
