@@ -160,8 +160,8 @@ abbrev pub asks_to_explain : List Text → Bool
 asks_to_explain (_ ∷ word ∷ _) = bytes_eq word (codes "explain")
 asks_to_explain _ = false
 
--- This fault may be reported for these words. `Parser`: `clap` has a fault of this kind for them. `Words`: `clap`
--- has none, and the values describe no line. `Memory` may be reported for any words.
+-- This fault may be reported for these words. `Parser`: `clap` has a fault of this kind for them, or was refused
+-- memory. `Words`: `clap` has no fault, and the values describe no line. `Memory` may be reported for any words.
 abbrev pub IsFaultOf : List Text → LineFault → Type 0
 IsFaultOf words (fault.Parser e) = HasKind (fault_of wmod words) e
 IsFaultOf words fault.Words = (fault_of wmod words ≡ []) × SaysNone (word_of words)

@@ -292,7 +292,8 @@ fn read(alloc: Global, matches: &ArgMatches<'_>) -> Result<Line, LineFault>
 }
 
 /// Parses the arguments, the first of which is the program's name. Fails with `Parser` if `clap` refuses them, or if
-/// they ask for help or the version. Fails with `Words` if a value is wrong, and with `Memory` if memory is refused.
+/// they ask for help or the version. Fails with `Words` if a value is wrong. If memory is refused, it fails with
+/// `Memory`, or with `Parser` if `clap` was refused it.
 pub fn line<S: AsStr>(alloc: Global, words: &[S]) -> Result<Line, LineFault>
     // `clap` accepts the arguments, and they describe this line.
     ensures ok { IfOk result (λ l. (fault_of wmod (map S.text words.now) ≡ [])
