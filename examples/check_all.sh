@@ -1,6 +1,6 @@
 #!/bin/sh
-# A build step: checks every .wasm below a folder, as many at once as there are processors. It prints a line for each module that is
-# not taken, and its status is 0 where all are.
+# A build step: checks every .wasm file below a folder, one process per processor. Prints a line for each
+# refused module. Exits with 0 if all are accepted.
 #
 #   examples/check_all.sh FOLDER
 [ -d "$1" ] || { echo "no folder: $1" >&2; exit 2; }

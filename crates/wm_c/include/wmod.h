@@ -187,8 +187,8 @@ typedef struct wmod_output {
  * Proved for a text within the limit, if the options are in range and memory was not refused: WMOD_TEXT_NOT_UTF8 comes
  * if and only if the text is not UTF-8. The next four come if and only if the text has a lexical error, each at its
  * offset. If the text writes no module, none of these five comes and `at` is the text's length, `why` is
- * WMOD_TEXT_EXPECTED. Tested: which other WMOD_TEXT_.. comes, and its `at`. WMOD_TEXT_TOO_MANY_LOCALS is known by
- * reading the code only. */
+ * WMOD_TEXT_EXPECTED. Tested: which other WMOD_TEXT_.. comes, and its `at`.
+ * WMOD_TEXT_TOO_MANY_LOCALS is tested with a function that may have only two locals. */
 uint32_t wmod_canon(const uint8_t *bytes, size_t length, const wmod_options *options, uint8_t *out, size_t room,
                     wmod_output *output);
 uint32_t wmod_show(const uint8_t *bytes, size_t length, const wmod_options *options, uint8_t *out, size_t room,

@@ -1,5 +1,6 @@
-/* Checks an upload while it arrives: reads standard input, a pipe or a socket, and stops at the first refusal, so that the rest is
- * never read. It prints `valid`, or `refused at N: NAME`. The first word may say how many bytes an upload may have at most.
+/* Checks an upload while it arrives: reads standard input, a pipe or a socket, and stops at the first refusal.
+ * The rest is then never read. Prints `valid`, or `refused at N: NAME`. The first argument, if there is one, is
+ * the most bytes that an upload may have.
  *
  *   cc upload.c $(pkg-config --cflags --libs wmod) -o upload
  */
@@ -9,7 +10,7 @@
 #include <stdlib.h>
 #include <unistd.h>
 
-/* What is taken of a stranger. */
+/* The limits for a stranger's module. */
 static wmod_options policy(uint64_t most) {
   wmod_options options = WMOD_OPTIONS;
   options.max_bytes = most;
@@ -19,7 +20,7 @@ static wmod_options policy(uint64_t most) {
   return options;
 }
 
-/* Feeds all that comes from `fd`, till a piece is refused. 0, or -1 where it cannot be read. */
+/* Feeds what comes from `fd` until a piece is refused. Returns 0, or -1 if `fd` cannot be read. */
 static int feed_from(int fd, wmod_validator *v) {
   uint8_t piece[16384];
   for (;;) {
