@@ -102,6 +102,8 @@ def check_names(it):
 def check_version(it):
     version = run(it.to / "bin/wmod", "--version").split()[1]
     same("the version of wmod.pc", it.flags("--modversion"), [version])
+    expanded = run("cc", "-E", "-P", "-include", "wmod.h", *it.flags("--cflags"), "-x", "c", "-", given=b"WMOD_RELEASE")
+    same("the release of wmod.h", expanded.split()[-1], f'"{version}"')
     same("the prefix of wmod.pc", run("grep", "^prefix=", it.to / "lib/pkgconfig/wmod.pc"), f"prefix={PREFIX}\n")
 
 

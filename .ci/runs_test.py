@@ -253,6 +253,7 @@ OF_SCRIPTS = [
     script_trials.trials_of_definitions,
     script_trials.trials_of_refusals,
     script_trials.trials_of_samples,
+    script_trials.trials_of_versions,
     script_trials.trials_of_edits,
     script_trials.trials_of_run,
     script_trials.trials_of_build,

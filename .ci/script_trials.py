@@ -22,6 +22,7 @@ import needs
 import packages
 import readme
 import refusals
+import versions
 
 TOP = pathlib.Path(__file__).resolve().parent.parent
 
@@ -128,6 +129,20 @@ TRIALS_OF_SAMPLES = {
     "no file": (LIBRARY, r"```rust\n", "```rust\nfn other() {}\n```\n\n```rust\n", "no file for the sample other"),
     "a file on no page": (f"{readme.USES}/other.rt", "", "fn other() {}\n", "on no page"),
     **{f"another line in {mark}": (LIBRARY, rf"```{mark}\n", f"```{mark}\nother\n", f"the sample in {mark} with the line `other`") for mark in readme.WHOLE},
+}
+
+OF_HEADER, OF_CRATE, OF_COMMAND = (f"{file}: " for file in (versions.HEADER, versions.CRATE, versions.COMMAND))
+TRIALS_OF_VERSIONS = {
+    "another release of the command": (versions.COMMAND, r'\.version\("\d+', '.version("7', "wanted 7."),
+    "three parts of the command": (versions.COMMAND, r'\.version\("(.*)"\)', r'.version("\1.0")', "is no number of two parts"),
+    "none of the command": (versions.COMMAND, r'\.version\(".*"\)', "", f"{OF_COMMAND}0 places"),
+    "another one of the header": (versions.HEADER, r'(WMOD_RELEASE) ".*"', r'\1 "7.1"', f"{OF_HEADER}7.1"),
+    "three parts of the header": (versions.HEADER, r'(WMOD_RELEASE) "(.*)"', r'\1 "\2.0"', OF_HEADER),
+    "none of the header": (versions.HEADER, r"#define WMOD_RELEASE .*\n", "", f"{OF_HEADER}0 places"),
+    "another one of the crate": (versions.CRATE, r'(?m)^version = "\d+', 'version = "7', f"{OF_CRATE}7."),
+    "another second part of the crate": (versions.CRATE, r'(?m)^(version = "\d+)\.\d+', r"\1.77", OF_CRATE),
+    "two parts of the crate": (versions.CRATE, r'(?m)^(version = "\d+\.\d+)\.\d+', r"\1", f"{OF_CRATE}0 places"),
+    "a number in the pkg-config file": (versions.PKG_CONFIG, "@VERSION@", "0.1", f"{versions.PKG_CONFIG}: 0.1"),
 }
 
 EDIT = "crates/wm_floats/must-fail/ties_rounded_up.edit"
@@ -243,6 +258,11 @@ def trials_of_samples(room):
     yield from played("readme.py", readme.faults_of, top, TRIALS_OF_SAMPLES)
 
 
+def trials_of_versions(room):
+    top = copied(room, "versions", *versions.FORMS)
+    yield from played("versions.py", versions.faults_of, top, TRIALS_OF_VERSIONS)
+
+
 def trials_of_edits(room):
     top = copied(room, "edits", "crates/wm_floats/*", edits.PAGE)
     yield from played("edits.py", lambda it: edits.names_of(it)[1], top, TRIALS_OF_EDITS)
@@ -252,7 +272,7 @@ def trials_of_run(room):
     """.ci/run, where the scripts but edits.py and needs.py are empty, and `rt` says what it is told to."""
     top = copied(room, "run", ".ci/run", ".ci/edits.py", ".ci/parses.py", ".ci/needs.py", edits.PAGE)
     (top / "crates").mkdir()
-    for name in ("believed", "definitions", "refusals", "readme"):
+    for name in ("believed", "definitions", "refusals", "readme", "versions"):
         (top / f".ci/{name}.py").write_text("", encoding="utf-8")
     (top / ".ci/built.py").write_text("print('built')\n", encoding="utf-8")
     env = {**os.environ, "PATH": f"{top}:{os.environ['PATH']}", "CI": ""}

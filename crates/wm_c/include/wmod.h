@@ -33,6 +33,9 @@ extern "C" {
 #define WMOD_VERSION_MINOR 1
 #define WMOD_VERSION (WMOD_VERSION_MAJOR * 65536u + WMOD_VERSION_MINOR)
 
+/* The release, as `wmod --version` and `pkg-config --modversion wmod` print it. */
+#define WMOD_RELEASE "0.1"
+
 /* How a call ended. The exit statuses 0, 1, 2 and 4 of the command `wmod` mean the same. */
 #define WMOD_VALID 0u    /* valid or written; from wmod_feed: nothing is refused so far */
 #define WMOD_REFUSED 1u  /* the input is refused: not valid, or outside the profile or the limits */
