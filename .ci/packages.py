@@ -1,6 +1,6 @@
-"""What is installed, in use: what the libraries show, the samples in each language, the manual page, the pictures of the pages,
-the completions, the crate for cargo, and that nothing is left after `uninstall`. Where a tool is missing here, the line
-says so and its part is not tried.
+"""What is installed, in use: the links of the pages, what the libraries show, the samples in each language,
+the manual page and its example for a folder, the completions, the crate for cargo, and that nothing is left after `uninstall`. Where
+a tool is missing here, the line says so and its part is not tried.
 
     .ci/packages.py ARCHIVE PROGRAM       libwm_c.a and wmod, as they were built
 """
@@ -17,7 +17,8 @@ import c_calls
 import needs
 
 TOP = pathlib.Path(__file__).resolve().parent.parent
-SAMPLES = TOP / "crates/wm_c/samples"
+# the files that are installed beside the pages, by their folder there
+BESIDE = {"examples": TOP / "examples", "samples": TOP / "crates/wm_c/samples"}
 PREFIX = "/opt/x"
 STRICT = ["-pedantic", "-Wall", "-Wextra", "-Werror", "-pthread"]
 LANGUAGES = {"C89": ["cc", "-std=c89"], "C++98": ["c++", "-x", "c++", "-std=c++98", "-Wno-long-long"]}
@@ -65,12 +66,17 @@ class Package:
     def __init__(self, room, archive, program):
         self.room = pathlib.Path(room)
         self.to = self.room / f"dest{PREFIX}"
+        self.pages = self.to / "share/doc/wmod"
         self.words = [sys.executable, "-B", TOP / "packaging/package.py", archive, program]
         self.program = program
         self.said = []
 
     def call(self, *words):
         return run(*self.words, *words, env={**os.environ, "DESTDIR": str(self.room / "dest")})
+
+    def with_program(self):
+        """The environment with the installed program on the path."""
+        return {**os.environ, "PATH": f"{self.to / 'bin'}:{os.environ['PATH']}"}
 
     def has(self, tool, *trial):
         """Whether the machine has a tool, which takes these words; where not, this is said at the end."""
@@ -112,7 +118,7 @@ def compiled(it):
     flags, libs, made = it.flags("--cflags"), it.flags("--libs"), {}
     for language, words in LANGUAGES.items():
         for name in POLICIES:
-            whole = [*words, *STRICT, *flags, SAMPLES / f"{name}.c", "-x", "none"]
+            whole = [*words, *STRICT, *flags, it.pages / f"samples/{name}.c", "-x", "none"]
             for way, linked in {"shared": libs, "static": [it.to / "lib/libwmod.a"]}.items():
                 made[name, language, way] = it.room / f"{name}-{language}-{way}"
                 run(*whole, *linked, "-o", made[name, language, way])
@@ -159,20 +165,26 @@ def check_memory(it, made):
             same(f"{name} below valgrind", run(*words, sample, given=module, wanted=None), run(sample, given=module, wanted=None))
 
 
-def check_folder(it):
-    """The lines for a folder of modules are those of the program, whatever the files are called."""
-    folder, wanted = it.room / "what 'strangers' sent", []
-    folder.mkdir()
+def folder_of_modules(it):
+    """A folder, and what the program answers to each of its files, whatever they are called."""
+    folder, answers = it.room / "what 'strangers' sent/modules", {}
+    folder.mkdir(parents=True)
     for number in range(MODULES):
         file = folder / f"no {number}.wasm"
         file.write_bytes(c_calls.made(number)[0])
-        status, said = run(it.program, "check", file, wanted=None)
-        wanted += [f"{file}: {said}"] if status else []
-    env = {**os.environ, "PATH": f"{it.to / 'bin'}:{os.environ['PATH']}"}
-    status, said = run(TOP / "examples/check_all.sh", folder, wanted=None, env=env)
+        answers[file] = run(it.program, "check", file, wanted=None)
+    return folder, answers
+
+
+def check_folder(it, folder, answers):
+    """The lines of check_all.sh are those of the program for the files that are refused."""
+    script, env = it.pages / "examples/check_all.sh", it.with_program()
+    same("whether check_all.sh is a program", os.access(script, os.X_OK), True)
+    wanted = [f"{file}: {said}" for file, (status, said) in answers.items() if status]
+    status, said = run(script, folder, wanted=None, env=env)
     same("the lines for a folder", sorted(said.splitlines(True)), sorted(wanted))
     same("the status for a folder", status, 123 if wanted else 0)
-    run(TOP / "examples/check_all.sh", folder / "missing", wanted=2, env=env)
+    run(script, folder / "missing", wanted=2, env=env)
 
 
 def check_layout(it):
@@ -185,21 +197,34 @@ def check_layout(it):
     same("the layout of wmod.h", run(it.room / "layout"), lines)
 
 
-def check_man(it):
+def check_man(it, folder, answers):
     if it.has("man"):
         page = it.to / "share/man/man1/wmod.1"
         env = {**os.environ, "LC_ALL": "C.UTF-8", "MANWIDTH": "80", "MANROFFOPT": "-c"}
         said = run("sh", "-c", 'man --warnings -l "$1" 2>&1', "sh", page, env=env)
+        check_example(it, said, folder, answers)
         for word in [*re.findall(r"--[a-z-]+", run(it.program, "--help").split("Options:")[1].split("\n\n")[0]), "EXIT STATUS"]:
             same(f"{word} in the manual page", word in said, True)
         same("warnings of man", re.findall(r"warning.*", said), [])
 
 
+def check_example(it, page, folder, answers):
+    """The manual page's example for a folder prints each file's name beside its answer."""
+    examples = re.findall(r"(?m)^ +find .*(?:\n.+)*", page)
+    same("how many examples begin with find", len(examples), 1)
+    status, said = run("sh", "-c", examples[0], wanted=None, cwd=folder.parent, env=it.with_program())
+    wanted = [f"{folder.name}/{file.name}: {answer}" for file, (_, answer) in answers.items()]
+    same("the lines of the example for a folder", sorted(said.splitlines(True)), sorted(wanted))
+    same("the status of the example for a folder", status, 123 if any(status for status, _ in answers.values()) else 0)
+
+
 def check_pages(it):
-    """The pictures that installed pages show are installed beside them."""
-    folder = it.to / "share/doc/wmod"
-    shown = {name for page in folder.glob("*.md") for name in re.findall(r"!\[[^]]*\]\((.+?)\)", page.read_text(encoding="utf-8"))}
-    same("pictures that are missing", sorted(name for name in shown if not (folder / name).is_file()), [])
+    """Each link of an installed page leads to a file that is installed, and each example and sample has a link."""
+    texts = [page.read_text(encoding="utf-8") for page in it.pages.glob("*.md")]
+    links = {link for text in texts for link in re.findall(r"\]\(([^)]+)\)", text)}
+    same("links that lead nowhere", sorted(link for link in links if not (it.pages / link).is_file()), [])
+    beside = {f"{name}/{file.name}" for name, folder in BESIDE.items() for file in folder.iterdir()}
+    same("files without a link", sorted(beside - links), [])
 
 
 def check_completions(it):
@@ -241,7 +266,7 @@ def check_dist(it):
     run("tar", "-xzf", files[0], "-C", it.room)
     folder = it.room / os.path.basename(files[0]).removesuffix(".tar.gz")
     words = run("pkg-config", "--libs", "--cflags", "wmod", env={**os.environ, "PKG_CONFIG_PATH": str(folder / "lib/pkgconfig")}).split()
-    run("cc", SAMPLES / "check.c", *words, "-o", it.room / "unpacked")
+    run("cc", folder / "share/doc/wmod/samples/check.c", *words, "-o", it.room / "unpacked")
 
 
 def check_removed(it):
@@ -271,15 +296,16 @@ def check_all(it):
         it.said += [f"no {tool}" for tool in missing]
         return
     it.call("install", PREFIX)
+    check_pages(it)
     check_names(it)
     check_version(it)
     made = compiled(it)
     check_samples(it, made)
     check_memory(it, made)
-    check_folder(it)
+    folder, answers = folder_of_modules(it)
+    check_folder(it, folder, answers)
     check_layout(it)
-    check_man(it)
-    check_pages(it)
+    check_man(it, folder, answers)
     check_completions(it)
     check_crate(it)
     check_dist(it)

@@ -16,7 +16,7 @@ import tempfile
 import stage
 
 # The record of an install: a line for each file, and a line with a slash at its end for each folder that it made.
-RECORD = "share/doc/wmod/installed.txt"
+RECORD = f"{stage.PAGES}/installed.txt"
 # the prefix in wmod.pc if the folder may be anywhere
 ANYWHERE = "${pcfiledir}/../.."
 
@@ -85,7 +85,7 @@ def told(to, files):
     parts = [it.partition("/") for it in files]
     for folder in sorted({it[0] for it in parts}):
         names = [name for at, _, name in parts if at == folder]
-        yield f"  {folder}: {', '.join(names) if len(names) < 6 else f'{len(names)} files: the manual page, pages in doc/wmod, completions'}"
+        yield f"  {folder}: {', '.join(names) if len(names) < 6 else f'{len(names)} files: the manual page, pages and examples in doc/wmod, completions'}"
 
 
 def record(to, names):

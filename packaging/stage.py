@@ -15,6 +15,11 @@ import texts
 
 TOP = pathlib.Path(__file__).resolve().parent.parent
 HEADER = TOP / "crates/wm_c/include/wmod.h"
+PAGES = "share/doc/wmod"
+# the files beside the pages, by their folder there
+BESIDE = {"examples": "examples/*", "samples": "crates/wm_c/samples/*.c"}
+# the start of a link to one of them, in docs/ and in the installed folder
+LINKS = {"](../examples/": "](examples/", "](../crates/wm_c/samples/": "](samples/"}
 # the symbols that the shared library exports
 EXPORTS = "{ global: wmod_*; local: *; };\n"
 COMPLETIONS = {
@@ -81,9 +86,28 @@ def written(program, prefix):
     return made
 
 
+def pages(folder):
+    """Copies the pages, their pictures, the examples and the samples for C."""
+    for it in [TOP / "README.md", *(TOP / "docs").glob("*.md")]:
+        text = it.read_text(encoding="utf-8")
+        for here, installed in LINKS.items():
+            text = text.replace(here, installed)
+        (folder / it.name).write_text(text, encoding="utf-8")
+    for it in (TOP / "docs").glob("*.svg"):
+        shutil.copyfile(it, folder / it.name)
+    for name, pattern in BESIDE.items():
+        (folder / name).mkdir()
+        for it in TOP.glob(pattern):
+            shutil.copyfile(it, folder / name / it.name)
+
+
+def is_program(file):
+    return file.parent.name == "bin" or ".so." in file.name or file.suffix == ".sh"
+
+
 def make(folder, prefix, archive, program):
     folder, archive, program = [pathlib.Path(it).resolve() for it in (folder, archive, program)]
-    for it in ("bin", "lib", "include", "share/doc/wmod"):
+    for it in ("bin", "lib", "include", PAGES):
         (folder / it).mkdir(parents=True)
     libraries(folder / "lib", archive)
     for it, text in written(program, prefix).items():
@@ -91,13 +115,11 @@ def make(folder, prefix, archive, program):
         (folder / it).write_text(text, encoding="utf-8")
     shutil.copyfile(program, folder / "bin/wmod")
     shutil.copyfile(HEADER, folder / "include/wmod.h")
-    # the pages and their pictures
-    for it in [TOP / "README.md", *(TOP / "docs").glob("*.md"), *(TOP / "docs").glob("*.svg")]:
-        shutil.copyfile(it, folder / "share/doc/wmod" / it.name)
+    pages(folder / PAGES)
     # the modes do not depend on the umask
     for it in [folder, *folder.rglob("*")]:
         if not it.is_symlink():
-            it.chmod(0o755 if it.is_dir() or it.parent.name == "bin" or ".so." in it.name else 0o644)
+            it.chmod(0o755 if it.is_dir() or is_program(it) else 0o644)
 
 
 if __name__ == "__main__":

@@ -1,7 +1,7 @@
 /* Judges standard input in pieces, and prints the line of `wmod check`. The first argument is the length of a piece.
  * If reading fails there is no answer, since the bytes before are not the whole input.
  *
- *   cc check.c -I crates/wm_c/include crates/wm_c/out/libwm_c.a $KIT/c/liblibc_c.a
+ *   cc check.c $(pkg-config --cflags --libs wmod) -o check
  */
 #include "wmod.h"
 #include <stdio.h>

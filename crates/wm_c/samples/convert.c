@@ -1,7 +1,7 @@
 /* Converts standard input as the first argument says, `canon`, `show` or `build`, and prints the output of this action
  * of `wmod`.
  *
- *   cc convert.c -I crates/wm_c/include crates/wm_c/out/libwm_c.a $KIT/c/liblibc_c.a
+ *   cc convert.c $(pkg-config --cflags --libs wmod) -o convert
  */
 #include "wmod.h"
 #include <stdio.h>
