@@ -71,10 +71,10 @@ def line(words, given):
     return ran.returncode, ran.stdout
 
 
-def line_unread(words, env=None):
+def line_unread(words):
     """The same where standard input cannot be read: it is a folder."""
     folder = os.open(HERE, os.O_RDONLY)
-    ran = subprocess.run(words, stdin=folder, stdout=subprocess.PIPE, stderr=subprocess.DEVNULL, timeout=60, check=False, env=env)
+    ran = subprocess.run(words, stdin=folder, stdout=subprocess.PIPE, stderr=subprocess.DEVNULL, timeout=60, check=False)
     os.close(folder)
     return ran.returncode, ran.stdout
 

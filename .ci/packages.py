@@ -1,4 +1,4 @@
-"""What is installed, in use: the links of the pages, what the libraries show, the samples in each language,
+"""What is installed, in use: the links of the pages, what the libraries show, the samples in each language and linked in each way,
 the manual page and its example for a folder, the completions, the crate for cargo, and that nothing is left after `uninstall`. Where
 a tool is missing here, the line says so and its part is not tried.
 
@@ -113,13 +113,23 @@ def check_version(it):
     same("the prefix of wmod.pc", run("grep", "^prefix=", it.to / "lib/pkgconfig/wmod.pc"), f"prefix={PREFIX}\n")
 
 
+def has_static():
+    """Whether the machine has the C library that `cc -static` links."""
+    return os.path.isabs(run("cc", "-print-file-name=libc.a").strip())
+
+
 def compiled(it):
-    """Each sample by its name, its language and its library."""
-    flags, libs, made = it.flags("--cflags"), it.flags("--libs"), {}
+    """Each sample by its name, its language and how it is linked. None needs LD_LIBRARY_PATH."""
+    ways = {"shared": [*it.flags("--libs"), f"-Wl,-rpath,{it.to / 'lib'}"], "archive": [it.to / "lib/libwmod.a"]}
+    if has_static():
+        ways["static"] = ["-static", *it.flags("--static", "--libs")]
+    else:
+        it.said.append("no libc.a")
+    flags, made = it.flags("--cflags"), {}
     for language, words in LANGUAGES.items():
         for name in POLICIES:
             whole = [*words, *STRICT, *flags, it.pages / f"samples/{name}.c", "-x", "none"]
-            for way, linked in {"shared": libs, "static": [it.to / "lib/libwmod.a"]}.items():
+            for way, linked in ways.items():
                 made[name, language, way] = it.room / f"{name}-{language}-{way}"
                 run(*whole, *linked, "-o", made[name, language, way])
     return made
@@ -127,23 +137,22 @@ def compiled(it):
 
 def check_samples(it, made):
     """A sample's line is that of the program with the sample's policy, and it has none of what cannot be read."""
-    env = {**os.environ, "LD_LIBRARY_PATH": str(it.to / "lib")}
     for number in range(MODULES):
         module, _ = c_calls.made(number)
         for name, policy in POLICIES.items():
             wanted = run(it.program, "check", *policy.split(), "-", given=module, wanted=None)
             for key, sample in made.items():
                 if key[0] == name:
-                    same(f"{key} of module {number}", run(sample, given=module, wanted=None, env=env), wanted)
+                    same(f"{key} of module {number}", run(sample, given=module, wanted=None), wanted)
     for key, sample in made.items():
-        same(f"{key} of what cannot be read", c_calls.line_unread([sample], env), (3, b""))
+        same(f"{key} of what cannot be read", c_calls.line_unread([sample]), (3, b""))
         if key[0] == "upload":
-            check_stops(sample, env)
+            check_stops(sample)
 
 
-def check_stops(sample, env):
+def check_stops(sample):
     """An upload is refused though it never ends, and one that is too long."""
-    with subprocess.Popen([sample], stdin=subprocess.PIPE, stdout=subprocess.PIPE, env=env) as process:
+    with subprocess.Popen([sample], stdin=subprocess.PIPE, stdout=subprocess.PIPE) as process:
         process.stdin.write(b"\0asn and so on")
         process.stdin.flush()
         try:
@@ -152,14 +161,14 @@ def check_stops(sample, env):
             process.kill()
             raise Fault(f"{sample.name} waits for the end of what is refused") from fault
         same("an upload that does not end", process.stdout.read(), b"refused at 4: Magic\n")
-    same("an upload that is too long", run(sample, 9, given=b"\0asm\1\0\0\0\0\0", wanted=1, env=env), "refused at 10: TooLong\n")
+    same("an upload that is too long", run(sample, 9, given=b"\0asm\1\0\0\0\0\0", wanted=1), "refused at 10: TooLong\n")
 
 
 def check_memory(it, made):
     """No sample reads what is not its own, and none keeps memory."""
     words = ["valgrind", "-q", "--leak-check=full", "--show-leak-kinds=all", "--errors-for-leak-kinds=all", "--error-exitcode=99"]
     for name in POLICIES if it.has("valgrind", "-q", "true") else ():
-        sample = made[name, "C89", "static"]
+        sample = made[name, "C89", "archive"]
         for number in range(3):
             module, _ = c_calls.made(number)
             same(f"{name} below valgrind", run(*words, sample, given=module, wanted=None), run(sample, given=module, wanted=None))
@@ -265,8 +274,18 @@ def check_dist(it):
     run("sha256sum", "-c", f"{os.path.basename(files[0])}.sha256", cwd=it.room / "one")
     run("tar", "-xzf", files[0], "-C", it.room)
     folder = it.room / os.path.basename(files[0]).removesuffix(".tar.gz")
-    words = run("pkg-config", "--libs", "--cflags", "wmod", env={**os.environ, "PKG_CONFIG_PATH": str(folder / "lib/pkgconfig")}).split()
-    run("cc", folder / "share/doc/wmod/samples/check.c", *words, "-o", it.room / "unpacked")
+    check_linking(folder)
+
+
+def check_linking(folder):
+    """Each command of the page for a program outside the linker's folders makes one that runs."""
+    pages, env = folder / "share/doc/wmod", {**os.environ, "PKG_CONFIG_PATH": str(folder / "lib/pkgconfig")}
+    page = (pages / "LIBRARY.md").read_text(encoding="utf-8")
+    for mark in ["-Wl,-rpath", "/libwmod.a", *(["--static"] if has_static() else [])]:
+        commands = re.findall(rf"(?m)^cc .*check\.c .*{re.escape(mark)}.*$", page)
+        same(f"how many commands of the page have {mark}", len(commands), 1)
+        said = run("sh", "-ec", f"{commands[0]}\n./check < ../examples/add.wasm", cwd=pages / "samples", env=env)
+        same(f"the answer of `{commands[0]}`", said, "valid\n")
 
 
 def check_removed(it):
