@@ -22,6 +22,7 @@ MORE = {
     "completions of zsh": ["zsh"],
     "completions of fish": ["fish"],
     "the crate for cargo": ["cargo"],
+    "its calls of std beside rustc 1.63": ["cargo-clippy"],
 }
 
 

@@ -249,6 +249,11 @@ def check_completions(it):
         same("fish completes", [line.split()[0] for line in run("fish", "-N", "-c", ask).splitlines()], ["canon", "check"])
 
 
+def cargo(crate, env, *words, wanted=0):
+    """What cargo says of the crate."""
+    return run("sh", "-c", 'exec cargo --offline "$@" 2>&1', "sh", *words, wanted=wanted, seconds=900, cwd=crate, env=env)
+
+
 def check_crate(it):
     """The tests of the crate, and the lines of its example beside the program's."""
     if not it.has("cargo", "--version"):
@@ -257,14 +262,37 @@ def check_crate(it):
     shutil.copytree(TOP / "rust", crate, ignore=shutil.ignore_patterns("target", "Cargo.lock"))
     folders = {"WMOD_LIB_DIR": it.to / "lib", "CARGO_HOME": it.room / "cargo", "CARGO_TARGET_DIR": it.room / "target"}
     env = {**os.environ, **{name: str(folder) for name, folder in folders.items()}}
-    run("cargo", "test", "--offline", seconds=900, cwd=crate, env=env)
-    run("cargo", "build", "--offline", "--example", "handler", seconds=900, cwd=crate, env=env)
+    cargo(crate, env, "test")
+    cargo(crate, env, "build", "--example", "handler")
     for number in range(MODULES):
         module, _ = c_calls.made(number)
         status, said = run(it.program, "check", *POLICIES["upload"].split(), "-", given=module, wanted=None)
         found = run(it.room / "target/debug/examples/handler", given=module)
         wanted = f"422 {said}" if status else f"200 {len(module)} bytes, "
         same(f"the handler's answer to module {number}", found[: len(wanted)], wanted)
+    check_manifest(it, crate, env)
+    check_unfound(it, crate, env)
+
+
+def check_manifest(it, crate, env):
+    """A package lacks a licence alone, and its code calls nothing of std that is newer than its `rust-version`."""
+    unlicensed = "manifest has no license or license-file"
+    warnings = re.findall(r"(?m)^warning: (.*)", cargo(crate, env, "package"))
+    same("other warnings of cargo package", [line for line in warnings if not line.startswith(unlicensed)], [])
+    if it.has("cargo-clippy", "--version"):
+        cargo(crate, env, "clippy", "--all-targets", "--", "-D", "clippy::incompatible_msrv")
+
+
+def check_unfound(it, crate, env):
+    """A build without the library says what to set. The documentation needs no library."""
+    said = cargo(crate, {**env, "WMOD_LIB_DIR": str(it.room)}, "build", wanted=101)
+    same("a folder without the library", f'WMOD_LIB_DIR is "{it.room}"' in said, True)
+    # with --target the flags are not for the build script, which needs a linker
+    host = re.search(r"host: (\S+)", run("rustc", "-vV"))[1]
+    env = {**env, "PKG_CONFIG_PATH": "", "PKG_CONFIG_LIBDIR": str(it.room), "RUSTFLAGS": "-Clinker=false"}
+    del env["WMOD_LIB_DIR"]
+    same("no library", "set WMOD_LIB_DIR to" in cargo(crate, env, "build", "--target", host, wanted=101), True)
+    cargo(crate, {**env, "DOCS_RS": "1"}, "doc", "--target", host)
 
 
 def check_dist(it):

@@ -27,7 +27,7 @@
 //! # Linking
 //!
 //! While cargo builds, `WMOD_LIB_DIR` names the folder of `libwmod.a`. Without it the crate asks `pkg-config`, and then
-//! the linker searches its own folders.
+//! the linker searches its own folders. The build fails if the library is in none of them.
 //!
 //! # Threads
 //!

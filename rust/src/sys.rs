@@ -1,7 +1,7 @@
 //! The declarations of `wmod.h`. A test below compares their layout with `layout.txt`. The project's CI compares that
 //! file with the header.
 
-use std::ffi::{c_char, c_void};
+use std::os::raw::{c_char, c_void};
 
 pub(crate) const VALID: u32 = 0;
 pub(crate) const REFUSED: u32 = 1;
@@ -96,31 +96,46 @@ extern "C" {
 #[cfg(test)]
 mod tests {
     use super::*;
-    use std::mem::{offset_of, size_of};
+    use std::mem::size_of_val;
+    use std::ptr;
 
-    /// The size of a type and the offsets of its fields, as lines of `layout.txt`.
+    fn address<T>(of: &T) -> usize {
+        of as *const T as usize
+    }
+
+    /// The size of a value and the offsets of its fields, as lines of `layout.txt`.
     macro_rules! laid {
-        ($name:literal, $type:ident, $($field:ident)*) => {
+        ($name:literal, $value:expr, $($field:ident)*) => {{
+            let value = $value;
             [
-                format!("sizeof({}) {}\n", $name, size_of::<$type>()),
-                $(format!("offsetof({}, {}) {}\n", $name, stringify!($field), offset_of!($type, $field)),)*
+                format!("sizeof({}) {}\n", $name, size_of_val(&value)),
+                $(format!(
+                    "offsetof({}, {}) {}\n",
+                    $name,
+                    stringify!($field),
+                    address(&value.$field) - address(&value)
+                ),)*
             ]
             .concat()
-        };
+        }};
     }
 
     #[test]
     fn layout() {
+        let options = crate::Options::new().0;
+        let validator = Validator {
+            state: ptr::null_mut(),
+        };
         let found = [
-            laid!("wmod_answer", Answer, status why at functions moves operands controls probes),
-            laid!("wmod_options", Options, size profile max_bytes functions locals depth old_words),
-            laid!("wmod_output", Output, status why at length),
-            laid!("wmod_validator", Validator, state),
+            laid!("wmod_answer", Answer::default(), status why at functions moves operands controls probes),
+            laid!("wmod_options", options, size profile max_bytes functions locals depth old_words),
+            laid!("wmod_output", Output::default(), status why at length),
+            laid!("wmod_validator", validator, state),
             format!(
                 "WMOD_VALID {VALID}\nWMOD_REFUSED {REFUSED}\nWMOD_MISUSE 2\nWMOD_MEMORY {MEMORY}\n"
             ),
             format!("WMOD_NO_ROOM {NO_ROOM}\nWMOD_PROFILE_1 1\nWMOD_PROFILE_2 2\n"),
-            format!("WMOD_PROFILE_3 3\nWMOD_PROFILE_4 4\n"),
+            "WMOD_PROFILE_3 3\nWMOD_PROFILE_4 4\n".into(),
             format!("WMOD_LIMIT_DEFAULT {LIMIT_DEFAULT}\nWMOD_LIMIT_MOST {LIMIT_MOST}\n"),
             format!("WMOD_NO_LIMIT {NO_LIMIT}\n"),
         ]
