@@ -1,6 +1,6 @@
 #!/usr/bin/env python3
 """The rows of both tables of docs/REFUSALS.md are those that the program wm_rows runs, and each printed word has one. They are also the
-lines of the table that `wmod explain` prints."""
+lines of the table that `wmod explain` prints. The crate for cargo has the numbers and NAMEs of the header, and the sentences of that table."""
 import pathlib
 import re
 import sys
@@ -11,6 +11,8 @@ ROWS = "crates/wm_rows/stdout"
 WORDS = "crates/wm_syntax/src/why.rt"
 TEXT_WORDS = "crates/wm_tokens/src/faults.rt"
 TABLE = "crates/wm_command/src/refusals.rt"
+HEADER = "crates/wm_c/include/wmod.h"
+CRATE = "rust/src/why.rs"
 
 # the groups of rows that each table has
 INPUTS = "# The smallest inputs of the refusals"
@@ -58,11 +60,11 @@ def printed_words(file, kind):
     return set(re.findall(kind + r'::\w+ => "(\w+)",', file.read_text(encoding="utf8")))
 
 
-def lines_of_table(top):
-    """The lines of both constants, as the compiler reads them."""
+def lines_of_tables(top):
+    """The lines of each of both constants, as the compiler reads them."""
     text = re.sub(r"\\\n\s*", "", (top / TABLE).read_text(encoding="utf8"))
     for lines in re.findall(r'(?m)^pub const \w+: &str = "(.*)";$', text):
-        yield from re.sub(r"\\(.)", lambda it: "\n" if it[1] == "n" else it[1], lines).split("\n")
+        yield re.sub(r"\\(.)", lambda it: "\n" if it[1] == "n" else it[1], lines).split("\n")
 
 
 def explained(top, page):
@@ -70,8 +72,35 @@ def explained(top, page):
     # (what is proved of a name has a column of its own, and is not printed)
     row = re.compile(r"^\| `(\w+)` \| ((?:[^|]+ \| ){3}[^|]+) \|(?: (?:proved|in part proved|tested) \|)?$", re.M)
     rows = [f"{name} | {rest}" for name, rest in row.findall(page)]
-    lines = list(lines_of_table(top))
+    lines = [line for lines in lines_of_tables(top) for line in lines]
     return [] if rows == lines else [f"not in both {PAGE} and {TABLE}, or in another order: {it}" for it in {*rows} ^ {*lines} or rows]
+
+
+def rows_of_crate(top):
+    """Yields the number, NAME and variant of each refusal of the crate for cargo, and its sentence."""
+    row = re.compile(r'((?:^ +/// .*\n)+) +(\d+) "(\w+)" (\w+),$', re.M)
+    for comment, *refusal in row.findall((top / CRATE).read_text(encoding="utf8")):
+        yield tuple(refusal), " ".join(line.strip().removeprefix("/// ") for line in comment.splitlines())
+
+
+def rows_of_header(top):
+    """Yields the same for the header, with the sentence of the table; None if the table has no such NAME."""
+    modules, texts = [dict(line.split(" | ")[:2] for line in lines) for lines in lines_of_tables(top)]
+    row = re.compile(r"^  WMOD_(WHY|TEXT)_\w+ = (\d+),? /\* (\w+)", re.M)
+    for kind, number, name in row.findall((top / HEADER).read_text(encoding="utf8")):
+        if kind == "WHY":
+            yield (number, name, name), modules.get(name)
+        # the crate has one variant for both numbers of Memory
+        elif name != "Memory":
+            yield (number, name, f"Text{name}"), texts.get(name)
+
+
+def unlike_crate(top):
+    """Returns the differences between the crate for cargo, the header and the table."""
+    crate, header = dict(rows_of_crate(top)), dict(rows_of_header(top))
+    faults = [f"not in both {HEADER} and {CRATE}: {' '.join(it)}" for it in sorted({*crate} ^ {*header})]
+    others = [name for (_, name, _), sentence in {*header.items()} - {*crate.items()} if sentence]
+    return faults + [f"another sentence in {CRATE} than in {TABLE}: {name}" for name in sorted(others)]
 
 
 def faults_of_rows(page, group, words):
@@ -93,7 +122,7 @@ def faults_of(top):
     faults += faults_of_rows(list(text_rows_of_page(page)), rows_of_group(top, TEXTS), text_words)
     if words_without_text(page) != WITHOUT_TEXT:
         faults.append(f"rows in {PAGE} without a smallest text: {words_without_text(page)}")
-    return faults + explained(top, page)
+    return faults + explained(top, page) + unlike_crate(top)
 
 
 def main():

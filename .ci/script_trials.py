@@ -121,6 +121,14 @@ TRIALS_OF_REFUSALS = {
     "a row with no text": (PAGE, r"(\| `BadEscape` \|[^|]*\|[^|]*\|)[^|]*\|", r"\1 none |", "without a smallest text"),
     "another sentence": (TABLE, r"One of the first", "None of the first", f"not in both {PAGE} and {TABLE}"),
     "another order": (TABLE, r'(OF_MODULES: &str = "\\\n)((?:.*\n)*?.*\\n\\\n)((?:.*\n)*?.*\\n\\\n)', r"\1\3\2", f"not in both {PAGE} and {TABLE}, or in another order"),
+    "another sentence of the crate": (refusals.CRATE, r"/// One of the first", "/// None of the first", f"another sentence in {refusals.CRATE} than in {TABLE}: Magic"),
+    "another number of the crate": (refusals.CRATE, r'1 "Magic"', '7 "Magic"', f"not in both {refusals.HEADER} and {refusals.CRATE}: 7 Magic Magic"),
+    "a refusal that the crate does not know": (
+        refusals.HEADER,
+        r"  WMOD_WHY_TOO_LARGE",
+        "  WMOD_WHY_LATER = 31, /* Later */\n  WMOD_WHY_TOO_LARGE",
+        f"not in both {refusals.HEADER} and {refusals.CRATE}: 31 Later Later",
+    ),
 }
 LIBRARY = "docs/LIBRARY.md"
 TRIALS_OF_SAMPLES = {
@@ -249,7 +257,7 @@ def trials_of_definitions(room):
 
 
 def trials_of_refusals(room):
-    top = copied(room, "refusals", PAGE, ROWS, TABLE, refusals.WORDS, refusals.TEXT_WORDS)
+    top = copied(room, "refusals", PAGE, ROWS, TABLE, refusals.WORDS, refusals.TEXT_WORDS, refusals.HEADER, refusals.CRATE)
     yield from played("refusals.py", refusals.faults_of, top, TRIALS_OF_REFUSALS)
 
 

@@ -2,7 +2,7 @@
 
 use std::fmt;
 use std::io::{self, Read};
-use wmod::{Error, ErrorKind, Options};
+use wmod::{Error, ErrorKind, Options, Why};
 
 /// A module that the service accepts.
 struct Module {
@@ -33,7 +33,7 @@ impl Rejection {
 impl From<Error> for Rejection {
     fn from(error: Error) -> Rejection {
         match error.kind() {
-            ErrorKind::Module if error.why() == "TooLong" => Rejection::TooLarge,
+            ErrorKind::Module if error.why() == Why::TooLong => Rejection::TooLarge,
             ErrorKind::Module => Rejection::Refused(error),
             _ => Rejection::Busy(error),
         }

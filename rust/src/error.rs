@@ -1,4 +1,4 @@
-use crate::sys;
+use crate::{sys, Why};
 use std::fmt;
 use std::io;
 
@@ -23,34 +23,37 @@ pub enum ErrorKind {
 #[derive(Clone, Copy, PartialEq, Eq)]
 pub struct Error {
     kind: ErrorKind,
+    why: Why,
     at: u64,
-    /// NUL-terminated, as the library writes it.
-    name: [u8; 32],
 }
 
 impl Error {
     /// Makes the error of an answer whose status is not `VALID`.
-    pub(crate) fn of(status: u32, why: u32, at: u64) -> Error {
+    pub(crate) fn of(status: u32, number: u32, at: u64) -> Error {
         let kind = match status {
-            sys::REFUSED if why >= FIRST_OF_TEXT => ErrorKind::Text,
+            sys::REFUSED if number >= FIRST_OF_TEXT => ErrorKind::Text,
             sys::REFUSED => ErrorKind::Module,
             sys::MEMORY => return Error::memory(),
-            _ => return Error::plain(ErrorKind::Library, b"Library"),
+            _ => return Error::library(),
         };
-        let mut name = [0; 32];
-        // SAFETY: pointer and length are those of one array. The library writes a 0 as its last byte.
-        unsafe { sys::wmod_why_name(why, name.as_mut_ptr().cast(), name.len()) };
-        Error { kind, at, name }
+        let why = Why::of(number);
+        Error { kind, why, at }
     }
 
     pub(crate) fn memory() -> Error {
-        Error::plain(ErrorKind::Memory, b"Memory")
+        Error {
+            kind: ErrorKind::Memory,
+            why: Why::Memory,
+            at: 0,
+        }
     }
 
-    pub(crate) fn plain(kind: ErrorKind, word: &[u8]) -> Error {
-        let mut name = [0; 32];
-        name[..word.len()].copy_from_slice(word);
-        Error { kind, at: 0, name }
+    pub(crate) fn library() -> Error {
+        Error {
+            kind: ErrorKind::Library,
+            why: Why::Library,
+            at: 0,
+        }
     }
 
     /// The kind of this error.
@@ -58,11 +61,15 @@ impl Error {
         self.kind
     }
 
-    /// The name of the refusal, such as `BadOpcode`, or `Memory` if memory was refused. The page `REFUSALS.md` of wmod
-    /// explains each.
-    pub fn why(&self) -> &str {
-        let word = self.name.split(|it| *it == 0).next().unwrap_or_default();
-        std::str::from_utf8(word).unwrap_or_default()
+    /// The reason of this error, with its sentence.
+    pub fn why(&self) -> Why {
+        self.why
+    }
+
+    /// The name of the refusal, such as `BadOpcode`, or `Memory` if memory was refused. [`Why::explain`] has its
+    /// sentence.
+    pub fn name(&self) -> &str {
+        self.why.name()
     }
 
     /// The offset of a refusal; `None` for another kind of error.
@@ -78,8 +85,8 @@ impl Error {
 impl fmt::Display for Error {
     fn fmt(&self, f: &mut fmt::Formatter<'_>) -> fmt::Result {
         match self.kind {
-            ErrorKind::Module => write!(f, "refused at {}: {}", self.at, self.why()),
-            ErrorKind::Text => write!(f, "text refused at {}: {}", self.at, self.why()),
+            ErrorKind::Module => write!(f, "refused at {}: {}", self.at, self.why),
+            ErrorKind::Text => write!(f, "text refused at {}: {}", self.at, self.why),
             ErrorKind::Memory => f.write_str("out of memory"),
             ErrorKind::Library => f.write_str("the linked libwmod is not of this crate's version"),
         }

@@ -10,7 +10,7 @@
 //!
 //! let error = wmod::validate(b"\0asn").unwrap_err();
 //! assert_eq!(error.to_string(), "refused at 4: Magic");
-//! assert_eq!((error.why(), error.place()), ("Magic", Some(4)));
+//! assert_eq!((error.why(), error.place()), (wmod::Why::Magic, Some(4)));
 //! ```
 //!
 //! # Which call
@@ -42,10 +42,12 @@ mod error;
 mod options;
 mod sys;
 mod validator;
+mod why;
 
 pub use error::{Error, ErrorKind};
 pub use options::{Options, Profile};
 pub use validator::{Summary, Validator};
+pub use why::{Name, Why};
 
 /// Validates a module in memory, with the default [`Options`].
 ///

@@ -1,6 +1,6 @@
 use crate::convert::converted;
 use crate::validator::judged;
-use crate::{sys, Error, ErrorKind, Summary, Validator};
+use crate::{sys, Error, Summary, Validator};
 
 /// Which instructions a module may use.
 #[derive(Clone, Copy, PartialEq, Eq, Debug, Default)]
@@ -129,7 +129,7 @@ impl Options {
             bytes,
             bytes.len().saturating_mul(8),
         )?;
-        String::from_utf8(text).map_err(|_| Error::plain(ErrorKind::Library, b"Library"))
+        String::from_utf8(text).map_err(|_| Error::library())
     }
 
     /// Converts as [`build`](crate::build) does, with these options.
@@ -137,7 +137,7 @@ impl Options {
     /// ```
     /// let text = "(module (type (func (param i32))) (func (type 0) get_local 0 drop))";
     /// assert!(wmod::Options::new().old_words(true).build(text).is_ok());
-    /// assert_eq!(wmod::build(text).unwrap_err().why(), "UnknownWord");
+    /// assert_eq!(wmod::build(text).unwrap_err().name(), "UnknownWord");
     /// ```
     pub fn build(&self, text: impl AsRef<[u8]>) -> Result<Vec<u8>, Error> {
         let text = text.as_ref();

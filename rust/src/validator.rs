@@ -55,7 +55,7 @@ pub(crate) fn judged(call: impl FnOnce(&mut sys::Answer)) -> Result<Summary, Err
 /// let mut validator = wmod::Validator::new()?;
 /// let error = io::copy(&mut upload, &mut validator).unwrap_err();
 /// let refusal = error.get_ref().and_then(|it| it.downcast_ref::<wmod::Error>());
-/// assert_eq!(refusal.map(|it| it.why()), Some("Magic"));
+/// assert_eq!(refusal.map(|it| it.why()), Some(wmod::Why::Magic));
 /// assert_eq!(validator.finish().unwrap_err().to_string(), "refused at 4: Magic");
 /// # Ok::<(), wmod::Error>(())
 /// ```

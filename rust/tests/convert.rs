@@ -1,6 +1,6 @@
 //! Conversions to canonical binary and to text.
 
-use wmod::{build, canon, show, ErrorKind, Options};
+use wmod::{build, canon, show, ErrorKind, Options, Why};
 
 /// A module with numbers longer than needed, and a custom section.
 const LONG: &[u8] =
@@ -31,32 +31,32 @@ fn a_text_longer_than_the_first_room() {
     assert_eq!(build(text).unwrap(), bytes);
     assert_eq!(
         Options::new().locals(8_999).show(bytes).unwrap_err().why(),
-        "ManyLocals"
+        Why::ManyLocals
     );
 }
 
 #[test]
 fn refusals_have_their_kind() {
-    let said = |error: wmod::Error| (error.kind(), error.why().to_owned(), error.place());
+    let said = |error: wmod::Error| (error.kind(), error.why(), error.place());
     assert_eq!(
         said(canon(b"\0asn").unwrap_err()),
-        (ErrorKind::Module, "Magic".into(), Some(4))
+        (ErrorKind::Module, Why::Magic, Some(4))
     );
     assert_eq!(
         said(show(b"").unwrap_err()),
-        (ErrorKind::Module, "Truncated".into(), Some(0))
+        (ErrorKind::Module, Why::Truncated, Some(0))
     );
     assert_eq!(
         said(build("(module (start $f))").unwrap_err()),
-        (ErrorKind::Text, "UnknownId".into(), Some(15))
+        (ErrorKind::Text, Why::TextUnknownId, Some(15))
     );
     assert_eq!(
         said(build("(module (start 0))").unwrap_err()),
-        (ErrorKind::Module, "Index".into(), Some(11))
+        (ErrorKind::Module, Why::Index, Some(11))
     );
     assert_eq!(
         said(build(b"\xff").unwrap_err()),
-        (ErrorKind::Text, "NotUtf8".into(), Some(0))
+        (ErrorKind::Text, Why::TextNotUtf8, Some(0))
     );
 }
 
@@ -65,5 +65,5 @@ fn older_words_are_read_where_they_are_asked_for() {
     let text = "(module (type (func (param i32))) (func (type 0) get_local 0 drop))";
     let bytes = Options::new().old_words(true).build(text).unwrap();
     assert!(show(&bytes).unwrap().contains("local.get 0"));
-    assert_eq!(build(text).unwrap_err().why(), "UnknownWord");
+    assert_eq!(build(text).unwrap_err().name(), "UnknownWord");
 }

@@ -1,7 +1,7 @@
 //! A module in pieces has the answer of the whole.
 
 use std::io::{self, Write};
-use wmod::{validate, Error, ErrorKind, Options, Profile, Validator};
+use wmod::{validate, Error, ErrorKind, Options, Profile, Validator, Why};
 
 const ADD: &[u8] =
     b"\0asm\x01\0\0\0\x01\x07\x01\x60\x02\x7f\x7f\x01\x7f\x03\x02\x01\0\x0a\x09\x01\x07\0\x20\0\x20\x01\x6a\x0b";
@@ -62,7 +62,7 @@ fn options_say_what_is_taken() {
     );
     assert_eq!(
         one.functions(0).validate(ADD).unwrap_err().why(),
-        "ManyFunctions"
+        Why::ManyFunctions
     );
 }
 
@@ -102,6 +102,8 @@ fn threads_have_a_validator_each() {
 fn an_error_is_sent() {
     fn sent<T: Send + Sync + 'static>() {}
     sent::<Error>();
+    sent::<Why>();
+    sent::<wmod::Name>();
     sent::<Options>();
     sent::<wmod::Summary>();
 }
