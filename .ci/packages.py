@@ -105,6 +105,12 @@ def check_names(it):
         same(f"what {words[-1].name} shows", sorted(names), declared())
 
 
+def check_threads(it):
+    """No library has thread-local data: a handle may move between threads."""
+    for name in ("libwmod.a", "libwmod.so"):
+        same(f"thread-local data of {name}", re.findall(r"(?m)^.*\bTLS\b.*$", run("nm", "--format=sysv", it.to / "lib" / name)), [])
+
+
 def check_version(it):
     version = run(it.to / "bin/wmod", "--version").split()[1]
     same("the version of wmod.pc", it.flags("--modversion"), [version])
@@ -345,6 +351,7 @@ def check_all(it):
     it.call("install", PREFIX)
     check_pages(it)
     check_names(it)
+    check_threads(it)
     check_version(it)
     made = compiled(it)
     check_samples(it, made)

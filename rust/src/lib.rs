@@ -31,8 +31,8 @@
 //!
 //! # Threads
 //!
-//! Any thread may call any function, at the same time as others. A [`Validator`] stays on the thread that made it: it
-//! is neither [`Send`] nor [`Sync`], since no proof of the library covers a move. All other types are both.
+//! Any thread may call any function, at the same time as others. A [`Validator`] is used by one thread at a time, and
+//! may move between threads: it is [`Send`], but not [`Sync`]. All other types are both.
 //!
 //! [wmod]: https://crates.io/crates/wmod
 #![deny(missing_docs)]

@@ -1,7 +1,6 @@
 use crate::{sys, Error, Options};
 use std::fmt;
 use std::io;
-use std::marker::PhantomData;
 use std::ptr;
 
 /// Figures of a valid module.
@@ -60,17 +59,35 @@ pub(crate) fn judged(call: impl FnOnce(&mut sys::Answer)) -> Result<Summary, Err
 /// # Ok::<(), wmod::Error>(())
 /// ```
 ///
-/// A validator stays on its thread:
+/// A validator is [`Send`], so a future may hold it across an `.await`:
+///
+/// ```
+/// use std::future::Future;
+///
+/// fn is_send<F: Future + Send>(_: &F) {}
+///
+/// is_send(&async {
+///     let mut validator = wmod::Validator::new()?;
+///     let piece = std::future::ready(b"\0asm\x01\0\0\0").await;
+///     validator.feed(piece)?;
+///     validator.finish()
+/// });
+/// ```
+///
+/// It is not [`Sync`], since a thread uses it alone:
 ///
 /// ```compile_fail
-/// fn sent<T: Send>() {}
-/// sent::<wmod::Validator>();
+/// fn is_sync<T: Sync>() {}
+/// is_sync::<wmod::Validator>();
 /// ```
 pub struct Validator {
     handle: sys::Validator,
-    // neither Send nor Sync
-    _thread: PhantomData<*mut ()>,
 }
+
+// SAFETY: the handle points to the library's state on the heap of C, which nothing else points to. The library has no
+// thread-local data and no lock, and C's `free` takes memory of any thread. So the state may move between threads. One
+// thread at a time uses it: each call that passes the handle takes `&mut self` or `self`.
+unsafe impl Send for Validator {}
 
 impl Validator {
     /// Returns a validator that has read nothing, with the default [`Options`]. [`Options::validator`] takes others.
@@ -82,10 +99,7 @@ impl Validator {
         let handle = sys::Validator {
             state: ptr::null_mut(),
         };
-        let mut it = Validator {
-            handle,
-            _thread: PhantomData,
-        };
+        let mut it = Validator { handle };
         // SAFETY: the handle is empty. It may move, since each call passes its address anew.
         match unsafe { sys::wmod_begin_with(&mut it.handle, options) } {
             sys::VALID => Ok(it),

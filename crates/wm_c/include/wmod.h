@@ -207,8 +207,8 @@ size_t wmod_why_name(uint32_t why, char *name, size_t capacity);
 uint32_t wmod_version(void);
 
 /* The handle of an input in pieces (chunks of any length). It is a variable of the caller, and starts as
- * WMOD_VALIDATOR_EMPTY (all bytes 0). Do not copy it once it is begun: pass its address. Only the thread that began a
- * handle uses it.
+ * WMOD_VALIDATOR_EMPTY (all bytes 0). Do not copy it once it is begun: pass its address. Any thread may use a handle,
+ * but one at a time: what passes it on, such as a lock or a join, orders the calls.
  *
  *   wmod_validator v = WMOD_VALIDATOR_EMPTY;
  *   wmod_answer answer;
