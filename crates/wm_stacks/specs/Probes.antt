@@ -3,8 +3,8 @@ use Rattle.std.specs.Prelude.{ℕ, zero, suc, ◌+◌, ◌-◌, ◌/◌, List, l
 use Rattle.wm_syntax.specs.declared.types.ValType.{ValType}
 use Rattle.wm_syntax.specs.Runs.{run_ends}
 
--- The number of ends that a binary search between low and high reads for the first end above an index. It
--- makes at most `left` steps.
+-- The number of run ends that a binary search reads between `low` and `high`, for the first end above an
+-- index. It reads at most `left` ends.
 unfoldable pub halvings : ℕ → List ℕ → ℕ → ℕ → ℕ → ℕ
 halvings zero ends index low high = 0
 halvings (suc left) ends index low high =

@@ -134,7 +134,8 @@ impl Operands {
         self.packed.push(Kind::Float)
     }
 
-    // Pushes an f64. Its bit is written first, since it means nothing if the kind is refused.
+    // Pushes an f64. Its bit is written first, since the bit means nothing if the push of the kind then
+    // fails.
     fn push_f64(&mut self) -> Result<(), Why>
         requires { length self.old.entries < 2 ^ 63 }
         ensures ok { OnOk result (self.new ≡ record {
@@ -151,8 +152,8 @@ impl Operands {
         }
     }
 
-    /// Pushes this float if the current word has a place for its kind, and the first word of widths for its
-    /// bit. Otherwise, or if it is no float, returns false and changes nothing.
+    /// Pushes this float if the current word has a place for its kind, and the first word of widths has one
+    /// for its bit. Otherwise, or if it is no float, returns false and changes nothing.
     #[inline(always)]
     pub fn push_float_fast(&mut self, float: Entry) -> bool
         ensures { DoneOrLeft (PushesEntry float) result self.old self.new }
@@ -203,8 +204,8 @@ impl Operands {
             .replace_two_fast(second, first, kind_given(given))
     }
 
-    /// As `replace_fast`, for a float whose width is in the first word of widths, so that no function is
-    /// called. A float is pushed in its place only if it has that type.
+    /// As `replace_fast`, for a float whose width is in the first word of widths, so that no function has to
+    /// be called. If a float is pushed, it must have the type `expected`.
     #[inline(always)]
     pub fn replace_float_fast(&mut self, expected: ValType, given: Option<Entry>) -> bool
         ensures { DoneOrLeft (ReplacesEntries (expected ∷ []) given) result self.old self.new }
@@ -219,7 +220,7 @@ impl Operands {
         self.packed.replace_fast(Kind::Float, kind_given(given))
     }
 
-    /// As `replace_float_fast`, for two floats. A float is pushed only if it has the type of the lower one.
+    /// As `replace_float_fast`, for two floats. If a float is pushed, it must have the type of the lower one.
     #[inline(always)]
     pub fn replace_two_floats_fast(
         &mut self,
@@ -341,7 +342,7 @@ fn is_of_width(ty: ValType, wide: bool) -> bool
     }
 }
 
-// Whether the operand to push, if it is a float, is as wide as this type.
+// Whether the operand to push has the width of this type. Also true for non-floats and for none.
 #[inline(always)]
 fn is_as_wide(given: Option<Entry>, ty: ValType) -> bool
     ensures { result ≡ true → (wide : Bool) → IsTrue (fits (entry_of Kind.Float wide) ty)
@@ -355,7 +356,7 @@ fn is_as_wide(given: Option<Entry>, ty: ValType) -> bool
     }
 }
 
-// Whether the operand to push, if any, is no float.
+// Whether the operand to push is no float. Also true for none.
 #[inline(always)]
 fn has_no_width(given: Option<Entry>) -> bool
     ensures { result ≡ true → (wide : Bool) → IsTold given wide }

@@ -8,14 +8,13 @@ ghost use Rattle.wm_stacks.specs.inner.Widths.{Written, is_wide, words_of};
 use std::alloc::Global;
 use wm_syntax::why::Why;
 
-// The number of operands that have their bits in one word.
+// The number of operands with a bit in one word.
 const BITS: usize = 64;
 
-/// The number of operands that have their bits in the first word.
+/// The number of operands with a bit in the first word.
 pub(crate) const IN_FIRST: usize = BITS;
 
-/// For each operand that is a float, whether it is an f64. Other operands have a bit too, which means
-/// nothing.
+/// For each operand that is a float, whether it is an f64. The bits of other operands mean nothing.
 ///
 /// Operand i has bit i % 64 of word i / 64. Words are made when an f64 is pushed. A word that was not made
 /// has no bit set.
@@ -85,7 +84,7 @@ impl Widths {
         }
     }
 
-    /// Writes the bit of an operand into its word, which was made before.
+    /// Writes the bit of an operand into its word, which must exist.
     #[inline(always)]
     pub fn put(&mut self, at: usize, wide: bool)
         requires { at / 64 ≤ length self.old.rest.items }

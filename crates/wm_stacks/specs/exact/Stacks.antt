@@ -1,6 +1,6 @@
--- The exact answer of each call, as a function of the two lists and the count, refusals included. These
--- follow the code for the layers above, whose answers are functions of their input. No promise rests on them
--- alone: the other clauses use the definitions of Stack.
+-- The exact answer of each call, as a function of the two lists and the count, refusals included. They follow
+-- the code. The layers above build their own exact answers on them. No promise rests on them alone: the other
+-- clauses use the definitions of `Stack`.
 use Rattle.std.specs.Prelude.{ℕ, Bool, true, false, List, [], ◌∷◌, Option, Some, None, Result, Ok, Err}
 use Rattle.std.specs.Prelude.{length, nat_le, nat_lt, if◌then◌else◌}
 use Rattle.wm_syntax.specs.declared.types.ValType.{ValType}
@@ -44,7 +44,7 @@ abbrev pub at_floor : {A : Type 0} → A → Bool → Stack → Result A Why × 
 at_floor a true s = (Ok a, look s)
 at_floor a false s = (Err Arity, s)
 
--- The stacks without their top operand: one move.
+-- The stacks after a removal that leaves these operands: one move.
 abbrev pub pop_to : List Entry → Stack → Stack
 pop_to es s = record s { operands = es; moves = count_after_move s.moves }
 
@@ -85,7 +85,7 @@ abbrev pub take_all : List ValType → Stack → Result Reach Why × Stack
 take_all [] s = (Ok Whole, s)
 take_all (t ∷ ts) s = goes_on (take_one t s) (take_all ts)
 
--- The operands below the floor, and the count after the others are removed.
+-- The operands below the floor, and the count after the removal of all others, one move each.
 abbrev pub down_to : ℕ → List Entry → ℕ → List Entry × ℕ
 down_to floor [] m = ([], m)
 down_to floor (e ∷ es) m = if nat_le floor (length es) then down_to floor es (count_after_move m)

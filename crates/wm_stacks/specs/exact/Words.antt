@@ -20,7 +20,7 @@ abbrev pub kinds_of_word : ℕ → ℕ → List Kind
 kinds_of_word zero word = []
 kinds_of_word (suc n) word = kind_of_code (word % 4) ∷ kinds_of_word n (word / 4)
 
--- The kinds in full words, the topmost first. The last word has the topmost operands.
+-- The kinds in full words, the topmost kind first. The last word has the topmost operands.
 abbrev pub kinds_under : List ℕ → List Kind
 kinds_under [] = []
 kinds_under (w ∷ ws) = kinds_under ws ++ kinds_of_word 32 w

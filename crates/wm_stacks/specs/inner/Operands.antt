@@ -31,7 +31,7 @@ entry_of Unknown wide = entry.Unknown
 entry_of Float true = entry.F64
 entry_of Float false = entry.F32
 
--- The given entry, if any, is determined by its kind and, for a float, by this width.
+-- If a float is given, it has this width.
 abbrev pub IsTold : Option Entry → Bool → Type 0
 IsTold None wide = Unit {0}
 IsTold (Some e) wide = entry_of (kind_of e) wide ≡ e
