@@ -10,12 +10,12 @@ use Rattle.wm_machine.specs.Fronts.{Tells, unfinished_name}
 abbrev pub held_in : {S H : Type 0} → (S → H) → Decoder S → H
 held_in held d = held d.sink
 
--- the bytes so far of an unfinished name: all bytes of the input that a decoder retains
+-- the bytes so far of an unfinished name; a decoder retains no other bytes of the input
 abbrev pub name_in : {S : Type 0} → Decoder S → List ℕ
 name_in d = d.name.items
 
--- The state after these bytes of a decoder that has refused nothing: `Tells` holds for its sink, and it retains as many
--- bytes as the unfinished name has.
+-- The state of a decoder after these bytes, if it has refused nothing: `Tells` holds for its sink, and it retains as
+-- many bytes as the unfinished name has.
 pub record SoFar {S H : Type 0} (held : S → H) (after : H → Item → Result H Why) (d : Decoder S)
     (s : Setting H)
     (bytes : List ℕ) : Type 0 where

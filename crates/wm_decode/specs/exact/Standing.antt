@@ -8,7 +8,7 @@ use Rattle.wm_machine.specs.exact.Live.{Live, live_or_refused}
 abbrev pub state_of : {S H : Type 0} → (S → H) → Decoder S → Result (Live H) Refusal
 state_of held d = live_or_refused d.machine d.name.items (held d.sink) d.at
 
--- the state of the decoder within a piece, with this part of the piece in the unfinished name
+-- the state of the decoder within a piece, if this part of the piece belongs to the unfinished name
 abbrev pub live_with : {S H : Type 0} → (S → H) → Decoder S → List ℕ → Live H
 live_with held d part = record {
   machine = d.machine;
