@@ -1,5 +1,5 @@
--- The canonical binary of a module (Core spec 5.5). Numbers have the fewest bytes. Locals are in maximal runs of one
--- type. It has no empty section, no custom section, and no else before an empty second branch.
+-- The canonical binary of a module (Core spec 5.5). Numbers have the fewest bytes, and locals are in maximal runs of
+-- one type. The binary has no empty section, no custom section, and no else before an empty second branch.
 use Rattle.std.specs.Prelude.{ℕ, ◌≡◌, ◌<◌, ◌≤◌, ◌^◌, List, [], ◌∷◌, ◌++◌, Option, Some, None, Bool, true}
 use Rattle.std.specs.Prelude.{false, ℤ, length, flat_map}
 use Rattle.wm_machine.specs.Sections.{header, kind_byte, SpellsImport, SpellsGlobal, SpellsExport}
@@ -150,7 +150,7 @@ code_bytes f = sized (code_contents f)
 abbrev pub segment_bytes : Segment → List ℕ
 segment_bytes s = u32_bytes s.memory ++ (constant_bytes s.offset ++ sized s.bytes)
 
--- A section: its id, the size of its contents, and these (Core spec 5.5.2). The section of an empty list is omitted.
+-- A section: its id, the size of its contents, and its contents (Core spec 5.5.2). An empty list has no section.
 abbrev pub section : ℕ → List ℕ → List ℕ
 section id contents = id ∷ sized contents
 
@@ -196,7 +196,7 @@ pub record Fits (m : Module) : Type 0 where
   pub codes : CanBeSized code_bytes m.functions
   pub segments : CanBeSized segment_bytes m.segments
 
--- The bytes a are no longer than any bytes of the form P.
+-- The bytes a are no longer than any bytes that have the form P.
 abbrev pub NoLonger : List ℕ → Form ℕ → Type 0
 NoLonger a P = (b : List ℕ) → P b → length a ≤ length b
 
@@ -204,7 +204,7 @@ NoLonger a P = (b : List ℕ) → P b → length a ≤ length b
 abbrev pub IsShortest : {X : Type 0} → (X → List ℕ) → (X → Form ℕ) → List X → Type 0
 IsShortest f S xs = NoLonger (listed f xs) (SpellsList S xs)
 
--- The contents of each section are no longer than any spelling of the same part, under each profile.
+-- The contents of each section are no longer than any spelling of the same list or index, under each profile.
 pub record HasShortestSections (m : Module) : Type 0 where
   pub types : IsShortest signature_bytes SpellsSignature m.types
   pub imports : IsShortest import_bytes SpellsImport m.imports

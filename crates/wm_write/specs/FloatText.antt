@@ -22,7 +22,7 @@ places (suc k) n = if n == 0 then [] else hex_digit (n / 16 ^ 12) ∷ places k (
 abbrev pub fraction_text : ℕ → List ℕ
 fraction_text n = if n == 0 then [] else 46 ∷ places 13 n
 
--- The exponent of 2 in decimal, always with a sign. e is that exponent plus the bias, as the bits have it.
+-- The exponent of 2 in decimal, always with a sign. e is the biased exponent: the sum of exponent and bias.
 abbrev pub exponent_text : ℕ → ℕ → List ℕ
 exponent_text bias e =
     if nat_le bias e then codes "p+" ++ decimal (e - bias) else codes "p-" ++ decimal (bias - e)
@@ -31,7 +31,7 @@ exponent_text bias e =
 abbrev pub scaled_text : List ℕ → ℕ → ℕ → ℕ → List ℕ
 scaled_text first n bias e = first ++ (fraction_text n ++ exponent_text bias e)
 
--- A finite number: zero; a subnormal number, with the least exponent of the normal ones; or a normal number.
+-- A finite number: zero, a subnormal number, or a normal number. Subnormals have the least exponent of normal ones.
 abbrev pub finite_text : ℕ → ℕ → ℕ → List ℕ
 finite_text n bias e =
     if e == 0 then (if n == 0 then codes "0x0p+0" else scaled_text (codes "0x0") n bias 1)
@@ -45,8 +45,7 @@ special_text payload = if payload == 0 then codes "inf" else codes "nan:0x" ++ h
 abbrev pub sign_text : ℕ → ℕ → List ℕ
 sign_text half bits = if nat_le half bits then 45 ∷ [] else []
 
--- The text after the sign, from the exponent e and the fraction f of the bits. The greatest e is that of infinities and
--- NaNs.
+-- The text after the sign, given the biased exponent e and the fraction f. Infinities and NaNs have the greatest e.
 abbrev pub size_text : FloatType → ℕ → ℕ → List ℕ
 size_text t e f =
     if e == 2 ^ expon t - 1 then special_text f

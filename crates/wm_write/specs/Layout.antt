@@ -65,7 +65,7 @@ words_text words = flat_map word_text words
 abbrev pub word_at : List ℕ → WordMeaning → Word
 word_at space means = record { space = space; means = means }
 
--- White space: a space; a line feed and two spaces, before a field; a line feed and four spaces, before a line of a
+-- White space: a space between words, a line feed and two spaces before a field, and a line feed and four spaces in a
 -- function.
 abbrev pub gap : List ℕ
 gap = 32 ∷ []
@@ -76,7 +76,7 @@ field_line = 10 ∷ 32 ∷ 32 ∷ []
 abbrev pub body_line : List ℕ
 body_line = 10 ∷ 32 ∷ 32 ∷ 32 ∷ 32 ∷ []
 
--- A space and an atom, a number, or a string.
+-- A word after a space: an atom, a number or a string.
 abbrev pub spaced : List ℕ → Word
 spaced a = word_at gap (atom a)
 
@@ -86,7 +86,7 @@ number n = spaced (decimal n)
 abbrev pub quoted : List ℕ → Word
 quoted bytes = word_at gap (string bytes)
 
--- ( head words ), with this white space before each of its parentheses.
+-- `( head words )`. White space `before` precedes the opening parenthesis, and white space `after` the closing one.
 abbrev pub parens : List ℕ → List ℕ → List Word → List ℕ → List Word
 parens before head words after =
     word_at before opening ∷ word_at [] (atom head) ∷ words ++ word_at after closing ∷ []
@@ -117,7 +117,7 @@ global_name i = name (codes "$g") i
 abbrev pub type_word : ValType → Word
 type_word t = spaced (type_text t)
 
--- ( head types ), or nothing for no types: parameters, results and locals (Core spec 6.4.3, 6.6.5).
+-- `( head types )`, or nothing if there are no types: parameters, results or locals (Core spec 6.4.3, 6.6.5).
 abbrev pub types_words : List ℕ → List ℕ → List ValType → List Word
 types_words before head [] = []
 types_words before head (t ∷ ts) = form before head (map type_word (t ∷ ts))
@@ -194,7 +194,7 @@ abbrev pub head_words : Option (List ℕ) → List Word
 head_words None = []
 head_words (Some name) = word_at body_line (atom name) ∷ []
 
--- An op (Core spec 6.5). All lines of a body are indented alike, so a body's words are those of its ops in order.
+-- An op (Core spec 6.5). All lines of a body have one indent, so the words of a body are those of its ops in order.
 abbrev pub op_words : Op → List Word
 op_words o = head_words (op_name o) ++ operand_words o
 
@@ -223,7 +223,7 @@ places imports = record {
   globals = length (filter_map imported_global imports);
 }
 
--- An import, given the number of earlier imports of each kind: that of its own kind is its index (Core spec 6.6.4).
+-- An import, given the number of earlier imports of each kind. The number for its kind is its index (Core spec 6.6.4).
 abbrev pub desc_words : Places → ImportDesc → List Word
 desc_words before (Func x) = form gap (codes "func") (function_name before.functions ∷ type_use x)
 desc_words before (Table l) = form gap (codes "table") (table_name before.tables ∷ table_words l)

@@ -1,4 +1,4 @@
-//! A small buffer for output, which goes out by one `put`.
+//! A small buffer for output, which one `put` writes out.
 
 ghost use Rattle.std.specs.Prelude.{◌≡◌, ◌+◌, ◌<◌, ◌≤◌, [], ◌∷◌, ◌++◌, decimal, length};
 ghost use Rattle.std.specs.Fmt.{signed_decimal};
@@ -123,7 +123,8 @@ impl Batch {
         }
     }
 
-    /// Appends some bytes and a number in decimal. It is inline, since the length of `front` is known at each call.
+    /// Appends some bytes and a number in decimal. It is inlined, since the length of `front` is a constant at each
+    /// call.
     #[inline(always)]
     pub(crate) fn push_counted<I: Integer>(&mut self, front: &[u8], n: I)
         requires { length self.old + (length front.now + I.MAX_STR_LEN) ≤ 64 }

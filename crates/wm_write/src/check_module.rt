@@ -62,7 +62,7 @@ pub fn check(
     // The refusal is the validator's for the canonical binary, with its name and offset.
     ensures same { (r : Refusal) → result ≡ Err (fault.Refused r)
         → verdict profile (2 ^ 62) policy (canon (value_of m.now)) ≡ Err r }
-    // The canonical binary is as the name of the refusal says.
+    // The meaning of the refusal's name holds for the canonical binary.
     ensures means { (r : Refusal) → result ≡ Err (fault.Refused r)
         → Meaning profile (2 ^ 62) policy (canon (value_of m.now)) r }
     ensures place { (r : Refusal) → result ≡ Err (fault.Refused r) → (r.why ≢ Memory)
@@ -89,7 +89,7 @@ pub fn checked_bytes(
     // The refusal is the validator's for the canonical binary, with its name and offset.
     ensures same { (r : Refusal) → result ≡ Err (fault.Refused r)
         → verdict profile (2 ^ 62) policy (canon (value_of m.now)) ≡ Err r }
-    // The canonical binary is as the name of the refusal says.
+    // The meaning of the refusal's name holds for the canonical binary.
     ensures means { (r : Refusal) → result ≡ Err (fault.Refused r)
         → Meaning profile (2 ^ 62) policy (canon (value_of m.now)) r }
     ensures place { (r : Refusal) → result ≡ Err (fault.Refused r) → (r.why ≢ Memory)

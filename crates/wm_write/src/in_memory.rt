@@ -74,7 +74,8 @@ impl Dest for Bytes {
 }
 
 /// Returns the canonical binary of a module. Core spec 5.5.15.
-/// Fails with `TooLarge` if and only if the contents of a section have 2^32 bytes or more, else with `Memory`.
+/// Fails with `TooLarge` if and only if the contents of a section have 2^32 bytes or more. Its only other error is
+/// `Memory`.
 pub fn encoded(alloc: Global, m: &Module) -> Result<Vec<u8>, MakeFault>
     ensures written { IfOk result (λ b. b.items ≡ canon (value_of m.now)) }
     ensures too_large { (result ≡ Err fault.TooLarge) ↔ (¬ Fits (value_of m.now)) }

@@ -1,5 +1,5 @@
-//! Writes a module as its canonical binary or as text. `check` validates a module that was built as a value, through
-//! its canonical binary.
+//! Writes a module as its canonical binary or as text. `check` validates a module value: it encodes the value and
+//! validates the bytes.
 #![tactic(auto)]
 
 mod batch;

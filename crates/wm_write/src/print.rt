@@ -35,7 +35,8 @@ pub enum PrintFault {
 }
 
 /// Writes the text of a loaded module. Core spec 6.6.13. It allocates no memory. Fails with `Io` if the writer fails.
-/// Each instruction is one `put`, and each other word one or two. A slow writer needs a buffer.
+/// Each instruction is one `put`, a string of n bytes is n + 2, and any other word is at most two. A slow writer needs
+/// a buffer.
 pub fn print<W: Dest>(checked: &Checked, w: &mut W) -> Result<(), PrintFault>
     requires open { W.has_failed w.old ≡ false }
     ensures written { OnOk result (Appends (W.contents w.old) (W.contents w.new)

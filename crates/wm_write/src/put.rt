@@ -93,14 +93,14 @@ fn each_len<P: Counted>(values: &[P::Value]) -> u64
     sum
 }
 
-/// The length that `put_list` writes in bytes, at most 2^64 - 1.
+/// The number of bytes that `put_list` writes, at most 2^64 - 1.
 pub(crate) fn list_len<P: Counted>(values: &[P::Value]) -> u64
     ensures { result ≡ capped (length (listed P.bytes values.now)) }
 {
     each_len::<P>(values).saturating_add(number_len(values.len() as u64))
 }
 
-/// The length that `put_sized` writes in bytes, at most 2^64 - 1.
+/// The number of bytes that `put_sized` writes, at most 2^64 - 1.
 pub(crate) fn sized_len(bytes: &[u8]) -> u64
     ensures { result ≡ capped (length (sized bytes.now)) }
 {

@@ -17,7 +17,7 @@ use wm_syntax::modules::body::Body;
 use wm_syntax::modules::locals::Locals;
 use wm_syntax::numbers::lengths::number_len;
 
-// The length of the longest ops in bytes, such as an access with two numbers of five bytes.
+// The most bytes of an op. A load with two immediates of five bytes each has as many.
 const LONGEST_OP: usize = 11;
 
 /// The contents of a code entry after its size: the locals and the body.
@@ -72,7 +72,7 @@ fn put_ops<W: Dest>(w: &mut W, written: &mut u64, ops: &[Op])
     put_bytes(w, written, batch.as_slice());
 }
 
-// Writes the batch and empties it, if it may have no room for one more op.
+// Writes and empties the batch if another op may not fit into it.
 #[inline(always)]
 fn put_full<W: Dest>(w: &mut W, written: &mut u64, batch: &mut Batch)
     ensures room { length batch.new + 11 ≤ 64 }
@@ -92,7 +92,7 @@ fn ops_len(body: &Body) -> u64
     body.encoded_len()
 }
 
-// The encoded length of locals in maximal runs of one type: in bytes, at most 2^64 - 1.
+// The encoded length of locals, as maximal runs of one type, in bytes; at most 2^64 - 1.
 fn runs_len(locals: &Locals) -> u64
     ensures { result ≡ capped (length (listed run_bytes (runs_of locals.now))) }
 {
@@ -115,7 +115,7 @@ pub(crate) fn codes_len(functions: &[Function]) -> u64
     sum
 }
 
-// The encoded length of a code entry with its size, in bytes, at most 2^64 - 1.
+// The encoded length of a code entry in bytes, its size field included; at most 2^64 - 1.
 fn code_len(function: &Function) -> u64
     ensures { result ≡ capped (length (code_bytes function.now)) }
 {

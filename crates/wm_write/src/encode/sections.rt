@@ -10,7 +10,7 @@ use crate::put::{Part, put_bytes, put_list};
 use wm_syntax::io::Dest;
 use wm_syntax::modules::Function;
 
-/// Writes the section of a list, unless the list is empty. `size` is the length of its contents, in bytes.
+/// Writes the section of a list, unless the list is empty. `size` is the length of the section's contents, in bytes.
 pub(crate) fn put_section<P: Part, W: Dest>(
     w: &mut W,
     written: &mut u64,

@@ -163,8 +163,8 @@ fn push_operands(line: &mut Batch, op: &Op)
     }
 }
 
-// Appends an op, at most 60 bytes: an instruction on a new line, or a label. The most common ops take a fast path, with
-// the name and the text around it as one constant. The names of all others are looked up.
+// Appends an op, at most 60 bytes: an instruction on a new line, or a label. The most common ops take a fast path, in
+// which the name and the text around it are one constant. All other names are looked up.
 #[inline(always)]
 fn push_line(line: &mut Batch, op: &Op)
     requires usual { IsTrue (is_printable op.now) }
@@ -180,7 +180,7 @@ fn push_line(line: &mut Batch, op: &Op)
     }
 }
 
-// `push_line` for an instruction without a nested list.
+// Does as `push_line`, for an `Op::Simple`.
 #[inline(always)]
 fn push_instruction(line: &mut Batch, op: &Op, simple: &Simple)
     requires simple { op.now ≡ Op.Simple simple.now }
@@ -244,7 +244,7 @@ pub(crate) fn put_body<W: Dest>(w: &mut W, written: &mut u64, ops: &[Op])
     }
 }
 
-/// Writes the locals on a line, unless there are none.
+/// Writes all locals on one line, unless there are none.
 pub(crate) fn put_locals<W: Dest>(w: &mut W, written: &mut u64, locals: &Locals)
     ensures { Sent (words_text (types_words body_line (codes "local") locals.now))
         (W.has_failed w.old, W.contents w.old, written.old)

@@ -18,7 +18,7 @@ use wm_syntax::modules::{
 };
 use wm_syntax::types::{Const, FuncType, Limits};
 
-/// A kind of field that defines an item, whose identifier is made of its index.
+/// A kind of field that defines an item. The item's identifier is made from its index.
 pub(crate) trait Field {
     type Value;
 
@@ -48,7 +48,7 @@ pub(crate) fn put_fields<F: Field, W: Dest>(
         (W.has_failed w.old, W.contents w.old, written.old)
         (W.has_failed w.new, W.contents w.new, written.new) }
 {
-    // A u128, since the sum of two lengths may exceed a u64.
+    // A u128, since the sum of `first` and the length may exceed a u64.
     let mut place = u128::from(first);
     for value in values {
         F::put(w, written, place, value);

@@ -103,7 +103,7 @@ fn push_finite(line: &mut Batch, n: u64, bias: u32, exponent: u32)
     }
 }
 
-// Appends zero or a subnormal number, which has the least exponent of the normal ones.
+// Appends zero or a subnormal number. Subnormals are printed with the least exponent of normal numbers.
 fn push_small(line: &mut Batch, n: u64, bias: u32)
     requires few { n < 16 ^ 13 }
     requires room { length line.old + 29 ≤ 64 }
@@ -158,7 +158,7 @@ fn push_places(line: &mut Batch, n: u64)
     }
 }
 
-// Appends a biased exponent, with its sign.
+// Appends the exponent, with its sign, given the biased one.
 fn push_exponent(line: &mut Batch, bias: u32, exponent: u32)
     requires { length line.old + 12 ≤ 64 }
     ensures { line.new ≡ line.old ++ exponent_text bias exponent }

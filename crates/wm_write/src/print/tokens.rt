@@ -74,7 +74,7 @@ pub(crate) fn put_run<W: Dest>(w: &mut W, written: &mut u64, count: u32, ty: Val
         (W.has_failed w.new, W.contents w.new, written.new) }
 {
     for _ in 0..count {
-        // Up to 2^32 words may follow, and a writer that has failed takes none of them.
+        // Up to 2^32 words may follow. None of them goes out once the writer has failed.
         if w.failed() {
             return;
         }
