@@ -38,7 +38,7 @@ pub enum WriteFault {
 
 /// Writes the canonical binary of a module, and returns its length in bytes. Core spec 5.5.15. It allocates no memory.
 /// Fails with `TooLarge` if and only if a section does not fit, and with `Io` if the writer fails.
-/// Each number and name is one `put`, and instructions go out in batches. A slow writer needs a buffer.
+/// Each number, name or type is one `put`, and instructions go out in batches. A slow writer needs a buffer.
 pub fn encode<W: Dest>(m: &Module, w: &mut W) -> Result<u64, WriteFault>
     requires open { W.has_failed w.old ≡ false }
     ensures written { IfOk result (λ n. (n ≡ length (canon (value_of m.now)))

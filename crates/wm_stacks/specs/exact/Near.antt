@@ -1,5 +1,5 @@
--- The effect of a fast path: it does all that is asked, as the single calls would, or it changes nothing. Its
--- answer says which.
+-- The effect of a fast path: it removes and pushes all that is asked, as `take_all` and `push` would, or it
+-- changes nothing. Its answer says which.
 use Rattle.std.specs.Prelude.{◌≡◌, Bool, true, false, List, Option, Some, None, Ok}
 use Rattle.wm_syntax.specs.declared.types.ValType.{ValType}
 use Rattle.wm_stacks.specs.declared.stack_entries.Entry.{Entry}
