@@ -80,7 +80,7 @@ TRIALS_OF_DEFINED = {
     "an exact fact is missing": (DEFINED, "`PushesKind`, ", "", f"{OF_EXACT}: no row has `PushesKind` of wm_stacks.specs.exact.Words"),
     "an exact word of a law is missing": (DEFINED, "`Built`, `after`", "`Built`", f"{OF_EXACT}: no row has `after` of wm_rules.specs.exact.Built"),
     "a file of exact functions is missing": (DEFINED, r".*`wm_tokens: Scan\.antt`.*\n", "", f"{OF_EXACT}: no row without words has wm_tokens.specs.exact.Scan"),
-    "no function is left for a file": (DEFINED, r"`wm_tokens: Scan\.antt`", "`wm_tokens: Scan.antt`; `wm_stacks: Near.antt`", f"{OF_EXACT}: all words of wm_stacks.specs.exact.Near"),
+    "no function is left for a file": (DEFINED, r"`wm_tokens: Scan\.antt`", "`wm_tokens: Scan.antt`; `wm_stacks: FastPaths.antt`", f"{OF_EXACT}: all words of wm_stacks.specs.exact.FastPaths"),
     "a word of a section is gone": (DEFINED, r"`Valid\.types`", "`Valid.kinds`", f"{definitions.SECTIONS}: `kinds` is no word of wm_rules.specs.Validation"),
     "a section has a word and no file": (DEFINED, r"always valid", "`Valid`", f"{definitions.SECTIONS}: `Valid` stands behind no file"),
     "a law is missing": (DEFINED, "`one_reading`, ", "", f"{OF_LAWS}: no row has `one_reading` of wm_machine"),

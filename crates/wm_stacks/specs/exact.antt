@@ -1,5 +1,5 @@
 -- Exact answers of functions, refusals included. They follow the code, and the layers above use them. A
 -- reader need not believe them.
-pub mod Near
+pub mod FastPaths
 pub mod Stacks
 pub mod Words

@@ -4,7 +4,7 @@ ghost use Rattle.std.specs.Prelude.{◌≡◌, ◌≢◌, ◌-◌, ◌%◌, ◌^
 ghost use Rattle.std.specs.Prelude.{OnErr, OnOk, IfSome, MatchOption, true, drop, length, option_map};
 ghost use Rattle.wm_stacks.specs.Stack.{fits};
 ghost use Rattle.wm_stacks.specs.exact.Stacks.{first, rest};
-ghost use Rattle.wm_stacks.specs.exact.Near.{DoneOrLeft};
+ghost use Rattle.wm_stacks.specs.exact.FastPaths.{DoneOrLeft};
 ghost use Rattle.wm_stacks.specs.inner.Operands.{IsTold, PushesEntry, ReplacesEntries, entry_of, kind_of};
 ghost use Rattle.wm_stacks.specs.inner.Widths.{is_wide};
 

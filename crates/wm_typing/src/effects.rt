@@ -3,7 +3,7 @@
 ghost use Rattle.std.specs.Prelude.{◌≡◌, ◌+◌, ◌<◌, ◌≤◌, ◌^◌, [], ◌∷◌, ◌++◌, Ok, Err, false, true};
 ghost use Rattle.std.specs.Prelude.{if◌then◌else◌};
 ghost use Rattle.std.specs.Prelude.{option_map, option_to_list};
-ghost use Rattle.wm_stacks.specs.exact.Near.{DoneOrLeft, Replaces};
+ghost use Rattle.wm_stacks.specs.exact.FastPaths.{DoneOrLeft, Replaces};
 ghost use Rattle.wm_stacks.specs.exact.Stacks.{push};
 ghost use Rattle.wm_syntax.specs.declared.types.ValType.TheVariants.{I32};
 ghost use Rattle.wm_typing.specs.exact.Answers.{Acts, CanAct};
