@@ -15,7 +15,7 @@ ghost use Rattle.wm_syntax.specs.declared.instructions.Op.TheVariants as Op;
 
 use crate::blocks::{BlockKeyword, OpenBlocks};
 use crate::identifiers::Scope;
-use crate::immediates::refuse;
+use crate::op_immediates::refuse;
 use crate::pieces::{Piece, read_piece};
 use std::alloc::Global;
 use wm_syntax::instructions::{Op, Simple};

@@ -8,11 +8,11 @@
 pub mod blocks;
 pub mod bodies;
 pub mod identifiers;
-pub mod immediates;
 pub mod laws;
 pub mod literals;
 pub mod named;
 pub mod named_uses;
+pub mod op_immediates;
 pub mod op_keywords;
 pub mod pieces;
 pub mod type_uses;

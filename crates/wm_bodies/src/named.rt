@@ -10,8 +10,8 @@ ghost use Rattle.wm_bodies.specs.inner.Named.{named_list, named_of};
 ghost use Rattle.wm_bodies.specs.inner.Views.{Reads};
 
 use crate::identifiers::Space;
-use crate::immediates::{close, no_type, open, refuse, type_named, type_of, val_type, word};
 use crate::literals::{is, is_id};
+use crate::op_immediates::{close, no_type, open, refuse, type_named, type_of, val_type, word};
 use crate::type_uses::begins_group;
 use std::alloc::{AllocError, Global};
 use wm_syntax::profile::Profile;

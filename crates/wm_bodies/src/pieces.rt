@@ -15,11 +15,11 @@ ghost use Rattle.wm_syntax.specs.declared.instructions.Simple.TheVariants as Sim
 
 use crate::blocks::{BlockKeyword, OpenBlocks};
 use crate::identifiers::{Names, Scope};
-use crate::immediates::{
+use crate::named_uses::call_fault;
+use crate::op_immediates::{
     access, again, begins_index, block_type, float_32, float_64, id, index, integer_32, integer_64,
     label, no_instruction, refuse, with,
 };
-use crate::named_uses::call_fault;
 use crate::op_keywords::op_keyword;
 use crate::type_uses::type_use;
 use std::alloc::Global;

@@ -11,8 +11,8 @@ ghost use Rattle.wm_bodies.specs.inner.Blocks.{names_of};
 ghost use Rattle.wm_bodies.specs.inner.Views.{IsRefusal, Reads};
 
 use crate::identifiers::Names;
-use crate::immediates::{close, index, no_type, open, refuse, type_of, word};
 use crate::literals::is;
+use crate::op_immediates::{close, index, no_type, open, refuse, type_of, word};
 use std::alloc::Global;
 use wm_syntax::modules::equality::same_list;
 use wm_syntax::profile::Profile;

@@ -18,7 +18,7 @@ use crate::fields::strings::{bytes, name};
 use crate::fields::types::{global_type, limits, table_type};
 use std::alloc::Global;
 use wm_bodies::identifiers::{Names, Space};
-use wm_bodies::immediates::{begins_index, close, id, index, open};
+use wm_bodies::op_immediates::{begins_index, close, id, index, open};
 use wm_syntax::modules::{Element, Export, Function, GlobalDef, Import, Segment};
 use wm_syntax::profile::Profile;
 use wm_syntax::types::{FuncType, Limits};

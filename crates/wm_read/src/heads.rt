@@ -15,7 +15,7 @@ use crate::fields::signatures::signature;
 use crate::fields::strings::name;
 use std::alloc::{AllocError, Global};
 use wm_bodies::identifiers::{Names, Space, is_new};
-use wm_bodies::immediates::{begins_open, close, id, open, refuse};
+use wm_bodies::op_immediates::{begins_open, close, id, open, refuse};
 use wm_syntax::modules::ExportKind;
 use wm_syntax::profile::Profile;
 use wm_tokens::faults::{TextFault, TextWhy};

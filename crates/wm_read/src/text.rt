@@ -27,7 +27,7 @@ use crate::renewed::renewed;
 use crate::spellings::Spellings;
 use std::alloc::Global;
 use wm_bodies::identifiers::Names;
-use wm_bodies::immediates::{close, id, open, refuse, word};
+use wm_bodies::op_immediates::{close, id, open, refuse, word};
 use wm_syntax::modules::Module;
 use wm_syntax::profile::{Feature, Profile};
 use wm_tokens::faults::{TextFault, TextRefusal, TextWhy};

@@ -9,7 +9,7 @@ ghost use Rattle.wm_bodies.specs.inner.Views.{IsRefusal, Reads};
 
 use std::alloc::Global;
 use wm_bodies::identifiers::Names;
-use wm_bodies::immediates::{
+use wm_bodies::op_immediates::{
     float_32, float_64, index, integer_32, integer_64, no_instruction, open, refuse, with, word,
 };
 use wm_syntax::instructions::Op;

@@ -15,7 +15,7 @@ ghost use Rattle.wm_bodies.specs.inner.Views.{IsOfReaders, NotMemory, Reads};
 use std::alloc::{AllocError, Global};
 use wm_bodies::bodies::read_body;
 use wm_bodies::identifiers::{Names, Scope, Space, is_new};
-use wm_bodies::immediates::refuse;
+use wm_bodies::op_immediates::refuse;
 use wm_bodies::named;
 use wm_bodies::named::NamedRun;
 use wm_bodies::named_uses::{NamedUse, Params, named_use};

@@ -11,7 +11,7 @@ use crate::fields::keywords::item_kind;
 use crate::fields::types::{global_type, limits, table_type};
 use std::alloc::Global;
 use wm_bodies::identifiers::{Names, Space};
-use wm_bodies::immediates::{close, close_forms, id, index, open, with};
+use wm_bodies::op_immediates::{close, close_forms, id, index, open, with};
 use wm_bodies::named_uses::named_use;
 use wm_syntax::modules::{ExportKind, ImportDesc};
 use wm_syntax::profile::Profile;

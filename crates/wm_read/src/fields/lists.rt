@@ -14,7 +14,7 @@ ghost use Rattle.wm_syntax.specs.Values.{value_of};
 use crate::fields::{Field, read_field};
 use std::alloc::{AllocError, Global};
 use wm_bodies::identifiers::Names;
-use wm_bodies::immediates::begins_open;
+use wm_bodies::op_immediates::begins_open;
 use wm_syntax::modules::Module;
 use wm_syntax::profile::Profile;
 use wm_tokens::faults::TextFault;

@@ -7,7 +7,7 @@ ghost use Rattle.wm_tokens.specs.exact.Scan.{lexed};
 ghost use Rattle.wm_bodies.specs.inner.Views.{Reads};
 
 use std::alloc::Global;
-use wm_bodies::immediates::refuse;
+use wm_bodies::op_immediates::refuse;
 use wm_tokens::faults::{TextFault, TextWhy};
 use wm_tokens::lexeme::{Lexeme, next_token, string_bytes};
 

@@ -2,7 +2,7 @@
 use Rattle.std.proofs.Common.{None, option_map, refl}
 use Rattle.wm_typing.specs.exact.OperandTypes.{entry_of_type}
 use Rattle.wm_typing.proofs.Costs.{near_acts}
-use Rattle.wm_typing.proofs.effects.apply_one_apart.Goals as goal
+use Rattle.wm_typing.proofs.stack_effects.apply_one_apart.Goals as goal
 
 pub returns-then-replaced_float : goal.returns-then-replaced_float
 returns-then-replaced_float c =

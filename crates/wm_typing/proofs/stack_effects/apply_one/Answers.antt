@@ -1,7 +1,7 @@
 -- The fast path does as the type says.
 use Rattle.std.proofs.Common.{None}
 use Rattle.wm_typing.proofs.Costs.{near_acts}
-use Rattle.wm_typing.proofs.effects.apply_one.Goals as goal
+use Rattle.wm_typing.proofs.stack_effects.apply_one.Goals as goal
 
 pub returns-then-replace_fast : goal.returns-then-replace_fast
 returns-then-replace_fast c =
