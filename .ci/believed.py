@@ -1,15 +1,20 @@
 #!/usr/bin/env python3
-"""Refuses what a reader would believe in vain: a definition that reaches an exact answer, and a field that no count names.
+"""Checks that no definition depends on an exact answer, and that KEPT names every field of retained state.
 
-Files directly in a crate's specs/ are what a reader has to believe. They may import one another, the types of the sources, and words of
-specs/inner/, of which contracts say all that matters. They reach nothing of specs/exact/, which follows the code: neither by an
-import, in any spelling, nor by a path in a definition, nor by a word of specs/inner/ whose own definition reaches it. OPAQUE lists
-the words of specs/inner/ for which that is no harm, and where. The model of a type, which stands with the code, is not followed.
+    .ci/believed.py
 
-How much is kept of an input is counted by a definition for each type (`kept` and the like), over the lists that the type
-holds. KEPT names each field of these types. One behind `*` is a list that is counted, or holds one; any other is of a type that
-is copied, so that it holds no list. A field that comes, goes or is of another type has to be named here, and counted there. So has each
-struct that is the type of such a field, or of an entry of such a list, unless it is copied.
+It prints each fault, and ends with status 1 if there is one.
+
+A reader has to believe the files directly in a crate's specs/. They may import one another, the types of the
+sources, and words of specs/inner/. They may reach nothing of specs/exact/, which follows the code: not by an import,
+not by a path in a definition, and not by a word of specs/inner/ whose definition reaches it. OPAQUE lists the
+exceptions among the words of specs/inner/. The model of a type is in the sources, and is not followed.
+
+A definition for each type (`kept` and the like) counts its retained state, over the lists that the type holds. KEPT
+names each field of these types. A field marked `*` is counted: it is a list or holds one. Any other field has a
+`Copy` type, so it holds no list. A new, removed or retyped field must be changed in KEPT, and counted in its
+definition. KEPT also has a row for each struct that is the type of a counted field, or of an entry of such a list,
+unless the struct is `Copy`.
 """
 import functools
 import pathlib
@@ -21,10 +26,11 @@ import uses
 
 TOP = pathlib.Path(__file__).resolve().parent.parent
 
-# The words of specs/inner/ that name exact answers, each with the reason why a reader need not look into it, and the definitions that name it
+# The words of specs/inner/ that reach exact answers and that definitions may still name. Each has the reason why a
+# reader need not look into it, and the files that name it.
 OPAQUE = {
-    # These only set it equal to an answer: equal bytes have equal answers. Accepted, SummaryOf and Meaning, beside it, say what an
-    # answer says of the bytes.
+    # These files only set `verdict` equal to an answer, so equal bytes have equal answers. Accepted, SummaryOf and
+    # Meaning, beside it, give the meaning of an answer.
     "wm_rules.specs.inner.Validators.verdict": [
         "wm_c/specs/Answers.antt",
         "wm_c/specs/Conversions.antt",
@@ -33,10 +39,11 @@ OPAQUE = {
         "wm_rules/specs/Reading.antt",
         "wm_rules/specs/Validating.antt",
     ],
-    # It joins a validator to the bytes that it has read: clauses of `new` and `feed` say when it holds, those of `finish` what follows.
+    # It relates a validator to the bytes that it has read. Clauses of `new` and `feed` say when it holds, and those of
+    # `finish` what follows from it.
     "wm_rules.specs.inner.Validators.HasRead": ["wm_c/specs/Sessions.antt"],
-    # It joins what a checker holds to the bytes, which alone determine it. The bounds beside it (at_most, heights, moves) are in the
-    # bytes alone.
+    # It relates the state of a checker to the bytes, which alone determine it. The bounds beside it (at_most, heights,
+    # moves) are functions of the bytes alone.
     "wm_rules.specs.inner.Validators.TellsChecker": ["wm_rules/specs/Validating.antt"],
 }
 
@@ -74,7 +81,7 @@ wm_rules Validator: *state: Result<Decoder<Checker>, Refusal>
 wm_rules Loader: *state: Result<Decoder<Both<Checker, Builder>>, Refusal>
 """
 
-# A line of a struct with a field, as rustfmt lays it out, and one with none
+# A line of a struct that has a field, in rustfmt's layout, and a line that has none.
 VISIBLE = r"(?:pub(?:\([^)]*\))? )?"
 FIELD = re.compile(rf"    {VISIBLE}(\w+): (.+),")
 NO_FIELD = re.compile(r"\s*|    //.*|    #\[.*\]|    ghost .*")
@@ -82,16 +89,16 @@ STRUCT = re.compile(rf"^{VISIBLE}struct (\w+)(?:<([^>]*)>)?[^{{;]*{{\n(.*?)^}}",
 NAMED = re.compile(rf"^{VISIBLE}(?:struct|enum|type) (\w+)", re.M)
 COPIED = re.compile(rf"#\[derive\([^)]*\bCopy\b[^)]*\)\]\n(?:#\[.*\]\n)*{VISIBLE}(?:struct|enum) (\w+)")
 PLAIN = {"bool", "u8", "u32", "u64", "usize", "i32", "i64", "Option", "Global"}
-# the kit's types that hold what stands in their brackets, and no more
+# The kit's types that hold only values of their type arguments.
 HOLDERS = {"Vec", "SmallVec", "BTreeSet", "String", "Result"}
 
-# what stands between the words of an .antt file, and the words before the name that a line declares
+# The separators between words of an .antt file, and the keywords that may precede a declared name.
 BREAK = re.compile(r"[\s(){}\[\],;]+")
 MARKS = {"pattern", "unfoldable", "abbrev", "axiom", "pub", "data", "record", "ruleset", "mutual"}
 
 
 def declarations(text):
-    """The text of each declaration of an .antt file, by its name."""
+    """Returns the text of each declaration of an .antt file, by its name."""
     found, name = {}, ""
     for line in text.splitlines(keepends=True):
         words = line.split()
@@ -105,7 +112,7 @@ def declarations(text):
 
 
 class Specs:
-    """The files of specs/ of all crates, and what each of their names reaches."""
+    """The files of specs/ of all crates. Finds the exact answers that a path reaches."""
 
     def __init__(self, top):
         self.top = top
@@ -113,12 +120,15 @@ class Specs:
 
     @functools.cache
     def read(self, file):
-        """What a file's `use` lines bring, and its declarations."""
+        """Returns the names that a file's `use` lines import, each with its path, and its declarations."""
         leaves, text = uses.read(file.read_text(encoding="utf8"))
         return leaves, declarations(text)
 
     def split(self, path):
-        """The file of the longest module that a path begins with, and the names behind it; no file for one of the kit or of a source."""
+        """Returns the file of the longest module that is a prefix of a path, and the remaining names.
+
+        The file is None for a path of the kit or of a source.
+        """
         head, *names = path.split(".")
         if head != "Rattle" or not names or names[0] not in self.crates:
             return None, []
@@ -131,19 +141,19 @@ class Specs:
         return file, rest
 
     def named(self, file, text):
-        """The paths that a text of this file names."""
+        """Yields the paths that a part of this file names."""
         leaves, _ = self.read(file)
         for word in set(BREAK.split(text)):
             head, _, rest = word.removeprefix("package.").partition(".")
             if head == "Rattle":
                 yield word.removeprefix("package.")
             for name, path in leaves:
-                # (an operator stands between its arguments, so it is not looked for)
+                # An operator is infix, so it is not searched: each import of one counts as named.
                 if name == head or "◌" in name:
                     yield f"{path}.{rest}".rstrip(".") if name == head else path
 
     def exact_of(self, path, seen):
-        """An exact answer that a path reaches, or nothing."""
+        """Returns an exact answer that a path reaches, or "" if it reaches none."""
         if is_exact(path):
             return path
         file, names = self.split(path)
@@ -152,7 +162,7 @@ class Specs:
         seen.add((file, names[0]))
         leaves, _ = self.read(file)
         passed = [".".join([it, *names[1:]]) for name, it in leaves if name == names[0]]
-        # a believed file is looked at by itself
+        # A file directly in specs/ is checked on its own.
         if not passed and file.parent.name != "inner":
             return ""
         for it in passed or self.named_by(file, names[0]):
@@ -162,7 +172,10 @@ class Specs:
         return ""
 
     def named_by(self, file, name):
-        """The paths that a declaration of an inner file names; one of no own declaration, such as a field, is of any of them."""
+        """Returns the paths that a declaration of an inner file names.
+
+        A name without a declaration of its own, such as a field, gets the paths of all declarations.
+        """
         _, declared = self.read(file)
         text = declared.get(name) or "".join(declared.values())
         module = ".".join(["Rattle", *file.relative_to(self.top / "crates").with_suffix("").parts])
@@ -175,12 +188,12 @@ def is_exact(path):
 
 
 def definitions(top):
-    """The files that a reader has to believe; what only names other files, as inner.antt does, is read as one of them."""
+    """Returns the files that a reader has to believe, and files that only list others, such as inner.antt."""
     return [file for file in sorted(top.glob("crates/*/specs/*.antt")) if file.name != "exact.antt"]
 
 
 def fault_of(specs, place, path):
-    """Why the definitions of a file may not name this path, or nothing."""
+    """Returns why the definitions of a file may not name this path, or "" if they may."""
     names = path.split(".")
     if names[0] != "Rattle" or names[1:] and names[1] not in specs.crates:
         return ""
@@ -199,7 +212,7 @@ def fault_of(specs, place, path):
 
 
 def unbelieved(top):
-    """The definitions that reach an exact answer, or that this script can't follow, and words that OPAQUE lists for nothing."""
+    """Yields the definitions that reach an exact answer or can't be followed, and useless entries of OPAQUE."""
     specs, used = Specs(top), {}
     for file in definitions(top):
         place = file.relative_to(top / "crates").as_posix()
@@ -222,30 +235,30 @@ def unbelieved(top):
 
 
 class Sources:
-    """The types of all crates, by the files of src/."""
+    """The types of all crates, by crate and file of src/."""
 
     def __init__(self, top):
         self.files = {crate.name: list(self.read(crate)) for crate in sorted((top / "crates").iterdir())}
 
     @staticmethod
     def read(crate):
-        """Of each file its text, what its `use` lines bring, and the types that it defines."""
+        """Yields the text, the imports and the defined types of each file."""
         for path in sorted(crate.glob("src/**/*.rt")):
             text = path.read_text(encoding="utf8")
             yield text, uses.read_source(text), NAMED.findall(text)
 
     def structs(self, crate, name):
-        """Each struct of this name: the file, the type parameters and the lines of its body."""
+        """Yields the file, the type parameters and the body of each struct of this name."""
         for file in self.files[crate]:
             yield from ((file, found[2] or "", found[3]) for found in STRUCT.finditer(file[0]) if found[1] == name)
 
     def is_copied(self, crate, name):
-        """Whether each type of this name in the crate is copied."""
+        """Whether the crate has types of this name and all of them are `Copy`."""
         count = sum(named.count(name) for _, _, named in self.files[crate])
         return 0 < count == sum(COPIED.findall(text).count(name) for text, _, _ in self.files[crate])
 
     def home(self, crate, file, word):
-        """The crate that defines the type which this word means in a file, and its name there; nothing for one of the kit."""
+        """Returns the crate and the name of the type that a word of a file names, or None for a type of the kit."""
         _, leaves, named = file
         if word in named:
             return crate, word
@@ -257,7 +270,7 @@ class Sources:
         return None
 
     def passed_on(self, crate, name):
-        """The same of a name that a crate gives, which may pass it on by `pub use`."""
+        """Returns the crate and name of a type that a crate exports, following `pub use` lines."""
         for _, leaves, named in self.files[crate]:
             for other, path in [] if name in named else leaves:
                 head = path.split(".")[0]
@@ -267,7 +280,7 @@ class Sources:
 
 
 def fields_of(body):
-    """The fields of a struct, each with its type. What is no field in one line stands there as it is."""
+    """Yields each field of a struct with its type. Any other line is yielded whole, with the type ""."""
     for line in body.splitlines():
         field = FIELD.fullmatch(line)
         if field:
@@ -277,7 +290,7 @@ def fields_of(body):
 
 
 def fault_of_type(sources, rows, crate, struct, field):
-    """What is wrong with a field: the rows have to name it, and its type too unless that is copied or one of the kit's."""
+    """Yields the faults of a field. A type that is not `Copy` must be counted, and have a row or be the kit's."""
     file, parameters, name, kind, is_counted = field
     for word in sorted(set(re.findall(r"\w+", kind)) - PLAIN):
         home = sources.home(crate, file, word)
@@ -292,7 +305,7 @@ def fault_of_type(sources, rows, crate, struct, field):
 
 
 def uncounted(top, kept=KEPT):
-    """The structs whose fields are others than KEPT names, and fields that are neither counted nor copied, or hold what has no row."""
+    """Yields the structs whose fields differ from KEPT, and the faults of their fields."""
     sources = Sources(top)
     rows = {tuple(head.split()): named for head, _, named in (row.partition(": ") for row in kept.strip().splitlines())}
     for (crate, struct), named in rows.items():

@@ -1,10 +1,15 @@
-"""What is tried on the built programs, once `rt ci` has proved and built them, as both compilers built them: each growth of
-wmod and of wm_rows refused in turn (growths.py), a million nested blocks (deep.py), and rows of the whole program's words, files and
-outputs (command.py). Then the calls for C beside wmod
-(c_calls.py), and what is installed (packages.py). The library for C, which `rt ci` proves and does not write, is built by
-`rt lib` first. That proves anew what no check on this machine has kept.
+"""Tests the built programs, after `rt ci` has proved and built them.
 
     .ci/built.py       at the top, after `rt ci`
+
+It ends with status 1 if a test fails. The programs of both compilers are tested:
+
+- growths.py refuses each allocation of wmod and of wm_rows in turn;
+- deep.py reads a million nested blocks;
+- command.py runs wmod with rows of arguments, files and outputs.
+
+Then `rt lib` builds the library for C, which `rt ci` proves but does not write. It proves again all that no check on
+this machine has kept. c_calls.py compares the library with wmod, and packages.py tests the installed files.
 """
 import os
 import pathlib
@@ -23,13 +28,13 @@ CRATES = pathlib.Path(__file__).resolve().parent.parent / "crates"
 
 
 def programs(name):
-    """As LLVM built it, and as Rattle's own compiler did, where that could."""
+    """Returns the program that LLVM built, and the one of Rattle's own compiler if there is one."""
     found = CRATES / name / "out" / name
     return [str(it) for it in (found, found.with_name(f"{name}.by-rattle")) if it.exists()] or [str(found)]
 
 
 def is_library_built():
-    """Whether the library for C is proved and built; says what was wrong."""
+    """Whether the library for C is proved and built. Prints the end of the output if not."""
     print("the library for C is proved and built, which takes some minutes", flush=True)
     built = subprocess.run(["rt", "lib"], cwd=CRATES / "wm_c", stdout=subprocess.PIPE, stderr=subprocess.STDOUT, text=True, check=False)
     if built.returncode:
@@ -38,8 +43,10 @@ def is_library_built():
 
 
 def print_tally():
-    """What wm_rows has run, as it says itself at the end of what it prints, which is its file stdout; and how many readers and
-    writers have failed in the tests of wm_cli, which hold this line."""
+    """Prints the counts of the tests: the last line of wm_rows/stdout, and the constant FAILED of the tests of wm_cli.
+
+    FAILED says how many readers and writers failed on purpose.
+    """
     rows = (CRATES / "wm_rows/stdout").read_text(encoding="utf-8").rstrip("\n").rpartition("\n")[2].lstrip("# ")
     failed = re.search(r'const FAILED: &str = "(.*)";', (CRATES / "wm_cli/src/tests.rt").read_text(encoding="utf-8"))[1]
     print(f"rows: {rows}, {failed}", flush=True)

@@ -1,11 +1,19 @@
-"""The calls for C beside the program: a made module gets the same line from both, however it is cut, and the same canonical
-binary, text and module of that text. Each growth of the samples is refused in turn: they end with status 4, or as with ample
-memory, and give back what they took. On a stack of 64 KiB they take a million nested blocks. What cannot be read has no answer.
-No bytes may lie at NULL, and no room. The calls of c_rows.txt are made one after another, and answer as it says. Header and samples
-are compiled as C89 and as C++98 first. Where the machine has no C compiler, this is said and nothing is tried, which is a failure
-where CI is `true`.
+"""Compares the calls for C with wmod, and tests the samples.
 
-    .ci/c_calls.py ARCHIVE PROGRAM       libwm_c.a and wmod, as they were built
+    .ci/c_calls.py ARCHIVE PROGRAM       the built libwm_c.a and wmod
+
+It ends with status 1 if one of these tests fails:
+
+- the header and the samples compile as C89 and as C++98;
+- for 1,000 generated modules, cut into pieces of different lengths, the samples and wmod print the same line,
+  canonical binary and text, and build the same module from that text;
+- if an allocation of a sample is refused, the sample ends with status 4, or as with ample memory, and frees all;
+- the samples read a million nested blocks on a stack of 64 KiB;
+- input that cannot be read gets no answer;
+- a call takes NULL for no bytes, and for a buffer without room;
+- each call of c_rows.txt, made in order, has the answer of its row.
+
+Without a C compiler it says so and tests nothing. That is a failure if the variable CI is `true`.
 """
 import os
 import random
@@ -25,20 +33,20 @@ SAMPLES = ["check", "convert"]
 STRICT = ["-pedantic", "-Wall", "-Wextra", "-Werror", f"-I{CRATE}/include"]
 LANGUAGES = [["cc", "-std=c89", *STRICT], ["c++", "-x", "c++", "-std=c++98", "-Wno-long-long", *STRICT]]
 MODULES = 1000
-# in KiB: what the header says
+# KiB: the stack size that the header promises
 STACK = 64
-# the rows of calls. There are so many at least: no row is dropped unless this number is changed too
+# the rows of calls, and their least number, so that no row is lost by accident
 ROWS = os.path.join(HERE, "c_rows.txt")
 LEAST = 98
-# what inputs of c_rows.txt stand for: a function that adds two numbers, one that extends a byte, a text with a word of older tools,
-# and one whose module is not valid
+# the inputs that c_rows.txt names: a function that adds two numbers, one that extends a byte, a text with a keyword of
+# older tools, and a text whose module is not valid
 INPUTS = {
     "ADD": "0061736D0100000001070160027F7F017F030201000A09010700200020016A0B",
     "EXTEND": "0061736D010000000105016000017F030201000A070105004100C00B",
     "OLDER": "(module (type (func)) (func (type 0) (local i32) get_local 0 drop))",
     "START": "(module (start 0))",
 }
-# what null_bytes.c prints: the refusals of no bytes and of an empty text, and the lengths of what has no room
+# the output of null_bytes.c: the refusals of no bytes and of an empty text, and the lengths of outputs without room
 NULL_LINES = """validate 1 11 0
 validate_with 1 11 0
 begin 0 0 0
@@ -58,7 +66,7 @@ why_name 5
 
 
 def made(number):
-    """A module of the growths' list with none to three of its bytes changed, and the length of its pieces."""
+    """Returns a module of growths.py with up to three bytes changed, sometimes cut short, and a piece length."""
     chance = random.Random(number)
     data = bytearray(growths.bytes_of(chance.choice(list(growths.MODULES.values())[:6])))
     for _ in range(chance.randrange(4)):
@@ -72,7 +80,7 @@ def line(words, given):
 
 
 def line_unread(words):
-    """The same where standard input cannot be read: it is a folder."""
+    """Returns the same if standard input is a folder, which cannot be read."""
     folder = os.open(HERE, os.O_RDONLY)
     ran = subprocess.run(words, stdin=folder, stdout=subprocess.PIPE, stderr=subprocess.DEVNULL, timeout=60, check=False)
     os.close(folder)
@@ -80,13 +88,13 @@ def line_unread(words):
 
 
 def heap():
-    """The archive of the kit's allocation functions, which call malloc, realloc and free."""
+    """Returns the path of the kit's allocation functions, which call malloc, realloc and free."""
     page = subprocess.run(["rt", "doc"], capture_output=True, text=True, check=True).stdout.strip()
     return os.path.join(os.path.dirname(page), "c/liblibc_c.a")
 
 
 def compiled(archive, room):
-    """What a compiler said; nothing where all is well. The programs stand in the room then."""
+    """Compiles the programs into the folder `room`. Returns the message of a compiler that failed, else ""."""
     files = {name: f"{CRATE}/samples/{name}.c" for name in SAMPLES} | {name: f"{HERE}/{name}.c" for name in ("null_bytes", "c_rows")}
     allocation = heap()
     for name, sample in files.items():
@@ -100,7 +108,10 @@ def compiled(archive, room):
 
 
 def differences(room, program, number):
-    """Where C and wmod differ on the module of this number: its text is built too, with a byte of it changed now and then."""
+    """Yields the differences between C and wmod on the module of this number.
+
+    Its text is built too. For odd numbers one byte of the text is changed.
+    """
     module, length = made(number)
     pairs = [([f"{room}/check", str(length)], "check", module)]
     pairs += [([f"{room}/convert", action], action, module) for action in ("canon", "show")]
@@ -121,7 +132,7 @@ def kind_of(ended, ample):
 
 
 def sweep(room):
-    """Refuses each growth of the samples, which give back all that they took."""
+    """Refuses each allocation of the samples in turn. Whether each run ends well and frees all."""
     modules = [growths.bytes_of(it) for it in growths.MODULES.values()]
     runs = [(["7"], it) for it in modules[:-1]]
     is_well = growths.swept("the sample check.c", f"{room}/check", runs, kind_of, gives_back=True)
@@ -131,7 +142,7 @@ def sweep(room):
 
 
 def is_flat(room):
-    """Whether the samples take a million nested blocks, and as many in a text, on the header's stack."""
+    """Whether the samples read a million nested blocks, in a binary and in a text, on the header's stack."""
     convert, text = f"{room}/convert", deep.run(f"{room}/convert", "show", deep.DEEP, STACK)
     answers = {
         "check": deep.run(f"{room}/check", "4096", deep.DEEP, STACK) == (0, b"valid\n"),
@@ -145,7 +156,7 @@ def is_flat(room):
 
 
 def is_bare(room):
-    """Whether no bytes and no room are taken at NULL."""
+    """Whether each call takes NULL for no bytes and for no room."""
     found = line([f"{room}/null_bytes"], b"")
     is_right = found == (0, NULL_LINES.encode())
     print("C: no bytes at NULL, and no room: " + ("well" if is_right else f"wrong: {found!r:.600}"), flush=True)
@@ -153,14 +164,14 @@ def is_bare(room):
 
 
 def rows():
-    """The rows of c_rows.txt, each call with its answer."""
+    """Returns the rows of c_rows.txt, each a call with its answer."""
     with open(ROWS, encoding="ascii") as it:
         lines = [row.rstrip("\n") for row in it if row.strip() and not row.startswith("#")]
     return [re.sub(rf" ({'|'.join(INPUTS)}) = ", lambda found: f" {INPUTS[found[1]]} = ", row) for row in lines]
 
 
 def are_rows_right(room):
-    """Whether each call of the rows answers as they say."""
+    """Whether each call has the answer of its row."""
     wanted = rows()
     given = "".join(row.partition(" = ")[0] + "\n" for row in wanted).encode()
     status, written = line([f"{room}/c_rows"], given)
@@ -175,7 +186,7 @@ def are_rows_right(room):
 
 
 def is_unanswered(room, program):
-    """Whether the samples have no answer to what cannot be read, as wmod has none."""
+    """Whether the samples and wmod give no answer and status 3 if the input cannot be read."""
     runs = [([f"{room}/check"], "check")] + [([f"{room}/convert", action], action) for action in ("canon", "show", "build")]
     wrong = [action for words, action in runs for it in (words, [program, action, "-"]) if line_unread(it) != (3, b"")]
     print("C: what cannot be read: " + (f"wrong: {', '.join(wrong)}" if wrong else "well"), flush=True)
@@ -183,7 +194,7 @@ def is_unanswered(room, program):
 
 
 def is_well(archive, program):
-    """Whether all is well; says so."""
+    """Whether all tests pass. Prints a line for each test."""
     if needs.missing("calls for C"):
         return needs.is_well_untried("C: no compiler here, so header, samples and rows of calls were not tried")
     with tempfile.TemporaryDirectory(prefix="c-calls-") as room:

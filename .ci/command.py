@@ -1,6 +1,8 @@
-"""The whole program, as it was built: its words, its files and what it writes. Each row of command_rows.txt is played by one run.
+"""Runs the built program once for each row of command_rows.txt, and compares its status and outputs with the row.
 
-    .ci/command.py PROGRAM       wmod, as it was built
+    .ci/command.py PROGRAM       the built wmod
+
+It ends with status 1 if a run differs from its row, or if rows are missing.
 """
 import os
 import pathlib
@@ -9,7 +11,7 @@ import subprocess
 import sys
 import tempfile
 
-# the rows. There are so many at least: no row is dropped unless this number is changed too
+# the rows, and their least number, so that no row is lost by accident
 ROWS = pathlib.Path(__file__).resolve().parent / "command_rows.txt"
 LEAST = 38
 TYPED = b"(module)"
@@ -21,25 +23,25 @@ NAMED = {ord("\t"): r"\t", ord("\n"): r"\n", ord("\r"): r"\r", ord('"'): r"\"", 
 
 
 def rows():
-    """The words and the answer of each row."""
+    """Returns the arguments and the answer of each row."""
     lines = ROWS.read_text(encoding="ascii").splitlines()
     return [line.split(" = ", 1) for line in lines if not line.startswith("#")]
 
 
 def escaped(text):
-    """In quotation marks, with the characters that a row writes for each byte."""
+    """Returns the bytes in quotation marks, escaped as in a row."""
     return '"' + "".join(NAMED.get(byte, chr(byte) if 32 <= byte < 127 else f"\\x{byte:02x}") for byte in text) + '"'
 
 
 def closed_pipe():
-    """The end of a pipe that is written to, of which nobody reads the other."""
+    """Returns the writing end of a pipe whose reading end is closed."""
     read, write = os.pipe()
     os.close(read)
     return write
 
 
 def answer(program, words, folder):
-    """What a run of these words comes to, as a row has it."""
+    """Runs the program with these arguments. Returns its status and outputs in the form of a row."""
     is_shut = words[0] == "shut"
     out = closed_pipe() if is_shut else subprocess.PIPE
     named = [program, *words[is_shut + 1 :]]
@@ -50,7 +52,7 @@ def answer(program, words, folder):
 
 
 def is_well(program):
-    """Whether each row has its answer; says which have another."""
+    """Whether each run has the answer of its row. Prints the runs that differ."""
     wrong = 0
     with tempfile.TemporaryDirectory(prefix="command-") as folder:
         for name, held in FILES.items():

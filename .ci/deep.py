@@ -1,14 +1,16 @@
-"""A million nested blocks, and as many in a text, on a stack of 128 KiB: nothing recurses on the input's depth.
+"""Runs wmod on a million nested blocks, in a binary and in a text, on a stack of 128 KiB, so recursion would fail.
 
-    .ci/deep.py PROGRAM       wmod, as it was built
+    .ci/deep.py PROGRAM       the built wmod
+
+It ends with status 1 if an answer is wrong.
 """
 import subprocess
 import sys
 
-# in KiB
+# KiB
 STACK = 128
 DEPTH = 1_000_000
-# a function of type [] to [] whose body opens so many blocks and closes them
+# a function of type [] -> [] whose body opens and closes DEPTH blocks
 DEEP = bytes.fromhex("0061736D01000000 010401600000 03020100 0AC78DB701 01 C28DB701 00") + b"\x02\x40" * DEPTH + b"\x0b" * (DEPTH + 1)
 FIGURES = f"functions 1\nmoves {2 * DEPTH + 2}\noperands 0\ncontrols {DEPTH + 1}\nprobes 0\n".encode()
 OPEN = b"(module (;" + b"(;" * DEPTH
@@ -16,15 +18,15 @@ OPEN_ANSWER = f"text refused at {len(OPEN)}: OpenComment\n".encode()
 
 
 def run(program, action, given, stack=STACK):
-    """The exit status and what was written."""
+    """Returns the exit status and the output."""
     words = ["sh", "-c", f'ulimit -s {stack}; exec "$@"', "", program, action]
-    # (the environment stands on the stack too)
+    # The environment uses the stack too, so it is empty.
     ran = subprocess.run(words, input=given, stdout=subprocess.PIPE, env={}, timeout=300, check=False)
     return ran.returncode, ran.stdout
 
 
 def is_well(program):
-    """Whether all is well; says so."""
+    """Whether all answers are right. Prints a line."""
     text = run(program, "show", DEEP)
     answers = {
         "check": run(program, "check", DEEP) == (0, b"valid\n"),

@@ -1,23 +1,28 @@
 #!/usr/bin/env python3
-"""Holds docs/DEFINITIONS.md against the words that the public clauses and the laws reach.
+"""Compares docs/DEFINITIONS.md with the words that the public clauses and the laws reach.
 
-    .ci/definitions.py [TOP]       TOP is the folder of the checkout, this one if it is left out
+    .ci/definitions.py [TOP]       TOP is the folder of a checkout; by default this one
 
-A public clause is a `requires` or an `ensures` of a `pub fn`, or of a function of a `pub trait`. A ghost member counts as one, since
-clauses speak of what it gives. Invariants do not, nor what the kit's own traits ask for (UNSAID). A law is a `pub fn` with an empty
-body: its clauses are all that it has. Crates of tests and of measurements promise nothing (OTHERS).
+It prints each fault, and ends with status 1 if there is one.
 
-The imports of a file say which words its clauses name. From there the script follows the definitions directly in specs/, which a reader
-has to believe, and no others: what a word of specs/inner/ or specs/exact/ is made of need not be read. The page has
+A public clause is a `requires` or an `ensures` of a `pub fn`, or of a function of a `pub trait`. A ghost member
+counts as one, because clauses use its value. Invariants do not count, nor do the ghost members that the kit's traits
+need (UNSAID). A law is a `pub fn` with an empty body. Crates of tests and of measurements do not count (OTHERS).
+
+The imports of a file give the words that its clauses name. From there the script follows the definitions directly in
+specs/, which a reader has to believe. It does not follow definitions of specs/inner/ or specs/exact/. The page must
+have
 
 - one row for each file directly in a specs/, below the rows of all such files that it imports;
-- a row with each word of specs/inner/ that is reached, and with no other;
-- a row with each word of specs/exact/ that is reached and is a fact or a type (its name has a capital), and with each that a law names.
-  The other words there are functions, and a clause says that the code answers what they give: their files have rows without words;
-- a row with each law, beside its crate.
+- a row for each word of specs/inner/ that is reached, and for no other;
+- a row for each word of specs/exact/ that is reached and is a fact or a type, so its name has a capital;
+- a row for each word of specs/exact/ that a law names;
+- a row without words for each file of specs/exact/ that has other words that are reached. They are functions, and a
+  clause says that the code returns their value;
+- a row for each law, with its crate.
 
-A name in backquotes is a word of the files beside it, in the first three and in the table of the standard's sections. Anywhere else it
-is a name of the code or of a definition. The script ends with status 1 where one of this is not so.
+In the first three tables and in the table of the standard's sections, a name in backquotes is a word of the files of
+its row. Anywhere else on the page it is a name of the code or of a definition.
 """
 import collections
 import pathlib
@@ -40,7 +45,7 @@ LAWS = "The laws that tie them together"
 
 GHOST_USE = re.compile(r"^\s*ghost use ([^;]*);", re.M)
 COMMENT = re.compile(r"(?:^|(?<=\s))//.*$", re.M)
-# the first line of a definition, or of a field or constructor in one
+# the first line of a definition, or of one of its fields or constructors
 HEAD = re.compile(r"(?:abbrev |unfoldable )?(?:pub )?(?:(record|data) ([^\s:]+)|([^\s:(){}]+) :(?: |$))")
 BLOCK = re.compile(r"(?:abbrev )?mutual$|module _ .*where$")
 FUNCTION = re.compile(r"^ *(pub(?:\([^)]*\))? )?(?:const |unsafe )*(?:extern \"C\" )?fn (\w+)", re.M)
@@ -49,20 +54,21 @@ GHOST = re.compile(r"^ *(?:pub(?:\([^)]*\))? )?ghost (\w+)(?: =|:) \{", re.M)
 TABLE = re.compile(r"^\|.*\|\n\|[-|]+\|\n((?:\|.*\|\n)+)", re.M)
 FILE = re.compile(r"(?:(\w+): )?(\w+)\.antt")
 
-# a file of specs/: which crate's, "believed", "inner" or "exact", the text of each word, the names of fields, and the paths of its imports
+# a file of specs/: its crate; "believed", "inner" or "exact"; the text of each word; the names of its fields; the paths
+# of its imports
 Module = collections.namedtuple("Module", "crate kind words fields imports")
-# the files of specs/; the words that public clauses name, with the laws that name them; all that is reached; the laws; all names of the
-# code and the definitions; and the imports that lead nowhere
+# the files of specs/; the words that public clauses name, each with the laws that name it; all words that are reached;
+# the laws; all names of the code and the definitions; and the imports that lead nowhere
 Project = collections.namedtuple("Project", "modules said reached laws names wrong")
 
 
 def core(word):
-    """An operator without the marks of its arguments; any other word as it is."""
+    """Returns an operator without the marks of its arguments, and any other word unchanged."""
     return next(filter(None, word.split("◌")), word)
 
 
 def read(path):
-    """A file without comments, and the paths that each of its names may stand for by its imports."""
+    """Returns a file without comments, and the paths that its imports give to each name."""
     text = path.read_text(encoding="utf8")
     if path.suffix == ".antt":
         leaves, text = uses.read(text)
@@ -76,7 +82,7 @@ def read(path):
 
 
 def words_of(text):
-    """The words that a file defines, with the text of each, and the names of its fields."""
+    """Returns the words that a file defines, each with its text, and the names of its fields."""
     words, fields, depth, now, kind = {}, set(), 0, None, None
     for line in text.splitlines():
         indent = len(line) - len(line.lstrip())
@@ -95,7 +101,7 @@ def words_of(text):
 
 
 def modules_of(top):
-    """The files of specs/ that define words, by the names that imports have for them."""
+    """Returns the files of specs/ that define words, by the paths that imports use for them."""
     modules = {}
     for path in sorted(top.glob("crates/*/specs/**/*.antt")):
         crate, _, *folders = path.relative_to(top / "crates").with_suffix("").parts
@@ -108,7 +114,7 @@ def modules_of(top):
 
 
 def split(path, modules):
-    """The module of a path and the word behind it, if any; nothing, where it is of no file of specs/."""
+    """Returns the module of a path and the word after it, each "" if there is none."""
     names = path.rstrip(".").split(".")
     for count in range(len(names), 2, -1):
         if ".".join(names[:count]) in modules:
@@ -117,7 +123,7 @@ def split(path, modules):
 
 
 def word_at(path, modules):
-    """The module that defines the word of a path, and that word, also where another module hands it on."""
+    """Yields the module that defines the word of a path, and the word, following re-exports."""
     name, word = split(path, modules)
     if name and word in modules[name].words:
         yield name, word
@@ -127,7 +133,7 @@ def word_at(path, modules):
 
 
 def named(text, imports, modules, home=""):
-    """The words that a text names, each with its module."""
+    """Yields the words that a text names, each with its module."""
     for token in set(re.split(r"[\s(){}\[\],;]+", text)):
         first, _, rest = token.partition(".")
         for path in {rest} if first == "Rattle" else imports.get(first, {f"{home}.{first}"}):
@@ -135,7 +141,7 @@ def named(text, imports, modules, home=""):
 
 
 def braced(text, start):
-    """What stands between a brace and the one that closes it."""
+    """Returns the text between a brace and the one that closes it."""
     depth = 0
     for found in re.compile(r"[{}]").finditer(text, start):
         depth += 1 if found[0] == "{" else -1
@@ -145,7 +151,7 @@ def braced(text, start):
 
 
 def clauses_of(text):
-    """The public clauses of a file of code: the name of the function where it is a law, and the clause."""
+    """Yields the public clauses of a file of code, each with the name of its function if that is a law."""
     traits = [range(it.start(), text.index("\n}", it.end())) for it in re.finditer(r"^pub trait ", text, re.M)]
     starts = [*FUNCTION.finditer(text)]
     for function, end in zip(starts, [it.start() for it in starts[1:]] + [len(text)]):
@@ -159,7 +165,7 @@ def clauses_of(text):
 
 
 def reached(modules, said):
-    """The words that clauses name, and those that definitions directly in specs/ name on the way from there."""
+    """Returns the words that clauses name, and those that they reach through definitions directly in specs/."""
     found, left = set(said), list(said)
     while left:
         name, word = left.pop()
@@ -172,7 +178,7 @@ def reached(modules, said):
 
 
 def lost(imports, modules):
-    """The paths of imports that lead to no file of specs/, or to no word of it. What the kit makes of the code is not looked for."""
+    """Yields the imports that lead to no file or word of specs/, except those of modules that the kit generates."""
     crates = {module.crate for module in modules.values()}
     for path in sorted(set().union(*imports.values())):
         own = re.match(r"(\w+)\.specs\b(?!\.(?:declared|contracts)\b)", path)
@@ -181,7 +187,7 @@ def lost(imports, modules):
 
 
 def project_of(top):
-    """What the page is held against: see Project."""
+    """Returns the facts that the page is compared with (Project)."""
     modules, said, laws, names, wrong = modules_of(top), {}, set(), set(), []
     for path in sorted([*top.glob("crates/*/src/**/*.rt"), *top.glob("crates/*/specs/**/*.antt")]):
         crate, *folders = path.relative_to(top / "crates").parts
@@ -197,29 +203,29 @@ def project_of(top):
 
 
 def section(page, title):
-    """What stands under a heading of the page."""
+    """Returns the text under a heading of the page."""
     found = re.search(rf"^## {re.escape(title)}\n(.*?)(?=^## |\Z)", page, re.M | re.S)
     return found[1] if found else ""
 
 
 def rows(page, title):
-    """The rows of the tables under a heading, each as its cells."""
+    """Yields the rows of the tables under a heading, each as a list of cells."""
     for table in TABLE.findall(section(page, title)):
         yield from (row.strip("| ").split(" | ") for row in table.splitlines())
 
 
 def quoted(cell):
-    """What stands in backquotes."""
+    """Returns the texts in backquotes."""
     return re.findall(r"`([^`]+)`", cell)
 
 
 def words_in(cell):
-    """The words that a cell names: the first of each pair of backquotes, behind which there may be arguments."""
+    """Returns the words that a cell names: the first word of each text in backquotes, without its arguments."""
     return [core(it.split()[0]) for it in quoted(cell)]
 
 
 def files_in(cell, folder=""):
-    """The files that a cell names, as modules. A crate holds for the files that follow it, too."""
+    """Yields the files that a cell names, as modules. A crate also holds for the files after it."""
     crate = ""
     for found in filter(None, map(FILE.fullmatch, quoted(cell))):
         crate = found[1] or crate
@@ -227,7 +233,7 @@ def files_in(cell, folder=""):
 
 
 def wrong_rows(project, page, title, folder=""):
-    """Rows under a heading without a file, files that are none, and words in first cells that no file of their row has."""
+    """Yields rows without a file, files that don't exist, and words in first cells that no file of the row has."""
     for first, second, *_ in rows(page, title):
         files = [*files_in(second, folder)]
         if not files:
@@ -240,7 +246,7 @@ def wrong_rows(project, page, title, folder=""):
 
 
 def wrong_order(project, page):
-    """Files directly in specs/ that have no row or more than one, and those with a row above that of one they use."""
+    """Yields files directly in specs/ that have not just one row, or whose row is above that of a file they import."""
     place, count = {}, collections.Counter()
     for at, (_, second, *_) in enumerate(rows(page, READ)):
         for file in files_in(second):
@@ -255,7 +261,7 @@ def wrong_order(project, page):
 
 
 def wrong_words(project, page, title, kind):
-    """Words of specs/KIND/ that are reached and have no row, and rows of what is not reached."""
+    """Yields words of specs/KIND/ that are reached and have no row, and rows of words that are not reached."""
     wanted = {it for it in project.reached if project.modules[it[0]].kind == kind}
     by_name = {it for it in wanted if kind == "inner" or it[1][0].isupper() or project.said.get(it)}
     named_there, whole = set(), set()
@@ -271,7 +277,7 @@ def wrong_words(project, page, title, kind):
 
 
 def wrong_sections(project, page):
-    """Names in the table of the standard's sections that are no file, or no word of the file before them."""
+    """Yields names in the table of the standard's sections that are no file, or no word of the file before them."""
     for _, second, *_ in rows(page, SECTIONS):
         files, file = files_in(second), ""
         for quote in quoted(second):
@@ -287,14 +293,14 @@ def wrong_sections(project, page):
 
 
 def wrong_laws(project, page):
-    """Laws that have no row with their crate, and rows of what is no law."""
+    """Yields laws that have no row with their crate, and rows of names that are no law."""
     there = {(crate, law) for first, second, *_ in rows(page, LAWS) for crate in quoted(first) for law in quoted(second)}
     yield from (f"no row has `{law}` of {crate}" for crate, law in sorted(project.laws - there))
     yield from (f"`{law}` is no law of {crate}" for crate, law in sorted(there - project.laws))
 
 
 def wrong_names(project, page):
-    """Names anywhere on the page that neither the code nor a definition has, and files that are none."""
+    """Yields names on the page that neither the code nor a definition has, and files that don't exist."""
     stems = {name.rpartition(".")[2] for name in project.modules}
     for quote in sorted(set(quoted(page))):
         file, word = FILE.fullmatch(quote), quote.split()[0]
@@ -303,7 +309,7 @@ def wrong_names(project, page):
 
 
 def faults_of(top, project=None):
-    """All that is wrong with the page of a tree, held against that tree or another project."""
+    """Yields the faults of the page of a tree, compared with that tree or with a given project."""
     project, page = project or project_of(top), (top / PAGE).read_text(encoding="utf8")
     for title, faults in (
         (READ, [*wrong_rows(project, page, READ), *wrong_order(project, page)]),

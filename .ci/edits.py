@@ -1,15 +1,22 @@
 #!/usr/bin/env python3
-"""Must-fail edits. Each turns one meaning, in a file of its own that is named for what is wrong. Those of a crate's must-fail/ are tried
-by the gate, those of its edits/ only here: in a copy of the tree all stand in must-fail/, and `rt must-fail` tries them there. The prover
-has to refuse each, and not only because a proof names what is gone.
+"""Runs and checks must-fail edits (mutation tests). The prover has to refuse each edit.
 
-    .ci/edits.py CRATE..           all of these crates
-    .ci/edits.py CRATE/NAME..      these alone
-    .ci/edits.py --names           tries none: whether each has a name of its own and can be made, and which the gate tries
-    .ci/edits.py --judge           reads what `rt ci` said: whether a line tells of an edit that shows nothing, which `rt ci` passes
+    .ci/edits.py CRATE..           runs all edits of these crates
+    .ci/edits.py CRATE/NAME..      runs these edits
+    .ci/edits.py --names           runs none: checks that each edit can be made and that no crate has a name twice, and
+                                   that the rows of docs/EDITS.md are the edits in the must-fail/ of each crate
+    .ci/edits.py --judge           reads the output of `rt ci`: fails if a line says that an edit shows nothing, which
+                                   `rt ci` passes
 
-An edit can be made where each old text stands once, the new text is another, the files it makes are others than before, but for
-comments and layout, and nothing in them is seen that does not parse (parses.py says what is looked at).
+It ends with status 1 if an edit fails, and with the status of `rt must-fail` if that is not 0. An edit shows nothing
+if the prover accepts it, or refuses it only by a limit, or only because a proof names something that it removes.
+
+Each edit changes one meaning, and its file is named for the mistake. CI runs the edits of a crate's must-fail/. Those
+of its edits/ are run only by this script: it puts them into must-fail/ in a copy of the tree, and calls
+`rt must-fail` there.
+
+An edit can be made if each old text is in its file exactly once, each new text differs from the old one, the edit
+changes more than comments and layout, and parses.py finds no fault in the result.
 """
 import pathlib
 import re
@@ -23,12 +30,12 @@ import parses
 
 TOP = pathlib.Path(__file__).resolve().parent.parent
 PAGE = "docs/EDITS.md"
-# what `rt must-fail` and `rt ci` say of an edit where the contract refused nothing, or less than it should
+# the lines of `rt must-fail` and `rt ci` for an edit that shows nothing
 IS_FAULT = re.compile(r"NOT REFUSED|NOT TRIED|BAD EDIT|only because a proof file names|only by a limit|^(rt: )?must-fail .*only because")
 
 
 def edits_of(crate):
-    """The files of the edits in a crate's folder, by their names."""
+    """Returns the files of a crate's edits, by name. Ends the script if two edits have one name."""
     files = {}
     for file in [*sorted(crate.glob("must-fail/*.edit")), *sorted(crate.glob("edits/*.edit"))]:
         if file.stem in files:
@@ -38,7 +45,7 @@ def edits_of(crate):
 
 
 def pairs_of(file):
-    """The path, the old and the new text of each pair of an edit. A path holds for the pairs that follow it, too."""
+    """Returns the path, the old and the new text of each pair of an edit. A path also holds for the pairs after it."""
     path, old, pairs = "", "", []
     for line in file.read_text(encoding="utf-8").split("\n"):
         if line.startswith("file: "):
@@ -53,7 +60,7 @@ def pairs_of(file):
 
 
 def faults_of(crate, file):
-    """Why an edit can't be made, or changes nothing. Each old text has to stand once in what the pairs before it made."""
+    """Yields why an edit can't be made or changes nothing. Each pair applies to the result of the pairs before it."""
     pairs, stood, made = pairs_of(file), {}, {}
     if not pairs:
         yield "no pair"
@@ -73,14 +80,14 @@ def faults_of(crate, file):
 
 
 def faults_of_page(top, crate, names):
-    """Whether the edits in the must-fail/ of a crate are the rows of the page."""
+    """Yields a fault if the rows of the page are not the edits in the must-fail/ of a crate."""
     rows = dict(re.findall(r"(?ms)^## `(\w+)`$(.*?)(?=^## |\Z)", (top / PAGE).read_text(encoding="utf-8")))
     if sorted(names) != sorted(re.findall(r"(?m)^\| `(\w+)` \|", rows.get(crate, ""))):
         yield f"{crate}: other edits in must-fail/ than rows in {PAGE}"
 
 
 def names_of(top):
-    """How many edits there are, and why some can't be made or are not as the page has them."""
+    """Returns the number of edits, and the faults of those that can't be made or differ from the page."""
     faults, count = [], 0
     for crate in sorted((top / "crates").iterdir()):
         files = edits_of(crate)
@@ -91,26 +98,26 @@ def names_of(top):
 
 
 def can_be_tried():
-    """Whether all edits can be made, and those of must-fail/ are the rows of the page; says what is wrong."""
+    """Whether all edits can be made, and those of must-fail/ are the rows of the page. Prints the faults."""
     count, faults = names_of(TOP)
     print(*faults, f"edits: {count}, faults: {len(faults)}", sep="\n")
     return not faults
 
 
 def judged(lines):
-    """The lines that tell of an edit which shows nothing."""
+    """Returns the lines that report an edit that shows nothing."""
     return [line.rstrip() for line in lines if IS_FAULT.search(line)]
 
 
 def is_judged_well(lines):
-    """Whether no line tells of such an edit; says which do."""
+    """Whether no line reports such an edit. Prints those that do."""
     faults = judged(lines)
     print(*(f"edits: it shows nothing: {line}" for line in faults), sep="\n", end="\n" if faults else "")
     return not faults
 
 
 def asked(words):
-    """The files of the edits that are asked for, by crate."""
+    """Returns the files of the named edits, by crate. Ends the script if there is no such edit."""
     files = {}
     for word in words:
         crate, _, name = word.partition("/")
@@ -122,7 +129,7 @@ def asked(words):
 
 
 def tried(files, room):
-    """What `rt must-fail` says of these edits, in a copy of the tree, and its status."""
+    """Runs `rt must-fail` on these edits in a copy of the tree. Returns its output and status."""
     shutil.copytree(TOP / "crates", f"{room}/crates", ignore=shutil.ignore_patterns("out"))
     for name in ("crates.txt", "HANDLES"):
         shutil.copy(TOP / name, room)

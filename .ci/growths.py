@@ -1,10 +1,17 @@
-"""Refuses each growth of a built program in turn: the first, the second, .. until a run meets none, once alone and once with all
-after it. Each such run of wmod ends with status 4, its one line and nothing written, or with the answer of ample memory. One of
-wm_rows ends with all answers of ample memory, or with status 1, its one line and some of these answers, each of them whole. A name
-takes a growth only where what wmod reads at once ends within it: else it is lent. A list that a long body grew in doesn't stay for
-the bodies behind it, nor one of deeply nested blocks. An empty body and its locals take no growth.
+"""Tests a built program with memory refused: each allocation fails in turn, once alone and once with all after it.
 
-    .ci/growths.py PROGRAM       wmod or wm_rows, as it was built
+    .ci/growths.py PROGRAM       the built wmod or wm_rows
+
+It ends with status 1 if a test fails. A growth is a call of malloc, calloc or realloc. With a growth refused,
+
+- wmod ends with status 4, its one line and no output, or with the answer that it gives with ample memory;
+- wm_rows ends with all answers of ample memory, or with status 1, its one line and some of these answers, each whole.
+
+The growths of wmod are also counted:
+
+- a name takes a growth only if the end of a piece cuts it. Else it is borrowed from the piece;
+- a list of ops that a long body grew is freed before the next body, and so is a list of deeply nested blocks;
+- an empty body without locals takes no growth.
 """
 import collections
 import os
@@ -24,7 +31,7 @@ HEAD = "00 61 73 6D 01 00 00 00"
 NONE = f"{HEAD} 01 04 01 60 00 00 03 02 01 00"
 TO_I32 = f"{HEAD} 01 05 01 60 00 01 7F 03 02 01 00"
 ADD = "01 60 02 7F 7F 01 7F 03 02 01 00 0A 09 01 07 00 20 00 20 01 6A 0B"
-# N*{..} repeats
+# N*{..} repeats its contents N times
 MODULES = {
     "an addition": f"{HEAD} 01 07 {ADD}",
     "a long number": f"{HEAD} 01 87 80 80 80 00 {ADD}",
@@ -40,14 +47,15 @@ MODULES = {
 TEXT = r'(module (memory $mem0 1) (data $mem0 (offset i32.const 0) "\00\u{e9}\""))'
 OLDER = "(module (type (func)) (memory 1) (func (type 0) (local i32) current_memory set_local 0))"
 
-# how many bytes are read at once (PIECE of wm_rules), a custom section with a name, and behind which of its bytes its name is cut
+# the bytes of one read (PIECE of wm_rules), a custom section with a name, and its offsets at which a piece's end cuts
+# the name
 PIECE, NAMED, CUTS = 4096, "00 04 03 61 62 63", (4, 5)
 
-# what a list that stays has room for at most: ops, and open blocks (MOST_KEPT of wm_syntax)
+# the greatest capacity of a list that is reused, in ops or in open blocks (MOST_KEPT of wm_syntax)
 MOST_KEPT = 1024
 NOP, BLOCK, END = b"\x01", b"\x02\x40", b"\x0b"
 
-# for wm_rows: a module whose text, checked value and canonical binary are made, and a text. Each is also cut at every place
+# the rows for wm_rows, which also cuts each input in two at every offset
 ROWS = f"""canon {MODULES['a long number'].replace(HEAD, 'H')}
 show {MODULES['an if with a result'].replace(HEAD, 'H')}
 stats {MODULES['data'].replace(HEAD, 'H')}
@@ -61,7 +69,7 @@ def bytes_of(words):
 
 
 def runs_of(program):
-    """What is run: the words, and standard input."""
+    """Yields the arguments and the standard input of each run."""
     for words in MODULES.values():
         module = bytes_of(words)
         for action in ("check", "stats", "canon", "show"):
@@ -84,7 +92,7 @@ def compiler():
 
 
 class Refuser:
-    """The library that refuses growths, and what it has told."""
+    """The library that refuses growths, and its last report."""
 
     def __init__(self, room):
         self.library, self.told, self.left = f"{room}/refuse_growths.so", f"{room}/told", 0
@@ -92,8 +100,11 @@ class Refuser:
         subprocess.run(words, check=True)
 
     def run(self, program, words, given, at=None, is_on=False):
-        """How it ended and what it wrote; how many growths it asked for, and how many were refused. `left` is then how many blocks
-        it did not give back. A program that a signal ends tells nothing."""
+        """Runs a program with growth `at` refused, and all after it if `is_on`.
+
+        Returns its status and outputs, the number of growths, and the number refused. Sets `left` to the number of
+        blocks that it did not free. A program that a signal ends reports nothing.
+        """
         env = {"LD_PRELOAD": self.library, "TELL": self.told}
         if at:
             env["REFUSE"] = str(at)
@@ -114,7 +125,7 @@ def kind_of(ended, ample):
         return "status 4"
     if ended == ample:
         return "as with ample memory"
-    # a second line of standard error says more of the fault, and wants memory for it
+    # The second line of standard error needs memory itself, so it may be missing.
     lines = ample[2].split(b"\n")
     if ended == (*ample[:2], lines[0] + b"\n"):
         return "as with ample memory, but for a second line of standard error"
@@ -131,13 +142,16 @@ def kind_of_rows(ended, ample):
 
 
 def beginnings(written):
-    """The first lines of what wm_rows writes, up to the last one."""
+    """Returns each prefix of whole lines of an output."""
     lines = written.splitlines(keepends=True)
     return [b"".join(lines[:count]) for count in range(len(lines) + 1)]
 
 
 def swept(name, program, runs, kind_of_run, gives_back=False):
-    """Whether all is well; prints how many runs there were of each kind. Some programs give back all that they took."""
+    """Refuses each growth of each run in turn. Whether all runs end well; prints the number of runs of each kind.
+
+    With `gives_back`, a run must also free all its blocks.
+    """
     if compiler() is None:
         return needs.is_well_untried(f"growths: there is no C compiler here, so no growth of {name} was refused")
     kinds, wrong, asked = collections.Counter(), [], 0
@@ -160,13 +174,13 @@ def swept(name, program, runs, kind_of_run, gives_back=False):
 
 
 def behind(place, section):
-    """A module with this section, behind so many bytes of which what is read at once ends."""
+    """Returns a module with this section, of which the first piece has `place` bytes."""
     size = PIECE - len(bytes_of(HEAD)) - 3 - place
     return bytes_of(HEAD) + b"\0" + number(size) + bytes(size) + bytes_of(section)
 
 
 def is_name_lent(program):
-    """Whether a name takes growths just where it is cut, of all places where what is read can end in its section or beside it."""
+    """Whether a name takes growths only if the piece ends inside it, for each offset of that end around its section."""
     if compiler() is None:
         return needs.is_well_untried("growths: there is no C compiler here, so no growths of wmod with names were counted")
     with tempfile.TemporaryDirectory(prefix="growths-") as room:
@@ -178,12 +192,12 @@ def is_name_lent(program):
 
 
 def number(value):
-    """A number in the fewest bytes (section 5.2.2)."""
+    """Returns a number as LEB128 in the fewest bytes (Core spec 5.2.2)."""
     return bytes([value]) if value < 128 else bytes([value % 128 + 128]) + number(value // 128)
 
 
 def module_of(*bodies):
-    """A module with functions of type [] to [] that have these bodies, without their last end."""
+    """Returns a module whose functions have type [] -> [] and these bodies, given without the last `end`."""
     entries = [b"\x00" + ops + END for ops in bodies]
     contents = number(len(bodies)) + b"".join(number(len(it)) + it for it in entries)
     functions = bytes([len(bodies) + 1, len(bodies)]) + bytes(len(bodies))
@@ -191,8 +205,11 @@ def module_of(*bodies):
 
 
 def is_long_list_let_go(program):
-    """Whether a body behind one of more ops than a list that stays has room for takes one growth more than behind one of as many;
-    and so of one with a block, behind blocks that are nested so deep."""
+    """Whether lists longer than MOST_KEPT are freed after their body, and those of that length are reused.
+
+    A body with an op takes one growth more after a body of MOST_KEPT + 1 ops than after one of MOST_KEPT. The
+    function also tests this for a block after nested blocks.
+    """
     if compiler() is None:
         return needs.is_well_untried("growths: there is no C compiler here, so no growths of wmod behind long bodies were counted")
     longs = [NOP * MOST_KEPT, NOP * (MOST_KEPT + 1)]
@@ -201,7 +218,7 @@ def is_long_list_let_go(program):
         refuser = Refuser(room)
 
         def more(first, shorter, longer):
-            """How many growths more the longer body behind the first takes than the shorter one."""
+            """Returns how many more growths the longer body takes than the shorter one, each after the first body."""
             counts = [refuser.run(program, ["canon"], module_of(first, it))[1] for it in (shorter, longer)]
             return counts[1] - counts[0]
 
@@ -212,7 +229,7 @@ def is_long_list_let_go(program):
 
 
 def is_empty_body_free(program):
-    """Whether functions with no locals and no instructions take no growths of their own: five take as many as eight."""
+    """Whether functions without locals and instructions take no growths: five take as many as eight."""
     if compiler() is None:
         return needs.is_well_untried("growths: there is no C compiler here, so no growths of wmod for empty bodies were counted")
     with tempfile.TemporaryDirectory(prefix="growths-") as room:

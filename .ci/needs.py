@@ -1,15 +1,16 @@
 #!/usr/bin/env python3
-"""What the gate needs of the machine. Nothing is tried without `rt`. A part of what is tried on the built programs needs tools for C. Where
-one of these is missing the part is not tried, and the line of that part says so: it is well on a newcomer's machine, and a
-failure where the variable CI is `true`. What needs any other tool is never a failure.
+"""Lists the tools that CI needs and this machine lacks, and the tests that are skipped without them.
 
-    .ci/needs.py       names what is missing here, and what is not tried for that
+    .ci/needs.py
+
+It ends with status 1 if `rt` is missing. It also does so if a tool of PARTS is missing and the variable CI is `true`;
+otherwise that tool's tests are skipped. A missing tool of MORE is never a failure.
 """
 import os
 import shutil
 import sys
 
-# one of several names serves
+# one of these names is enough
 COMPILER = "cc|gcc|clang"
 PARTS = {
     "growths of the built programs": [COMPILER],
@@ -31,7 +32,7 @@ def is_ci():
 
 
 def found(tool):
-    """The name by which the machine has a tool, or nothing."""
+    """Returns the first of a tool's names that is on the path, or None."""
     return next((it for it in tool.split("|") if shutil.which(it)), None)
 
 
@@ -40,7 +41,7 @@ def missing(part):
 
 
 def is_well_untried(line):
-    """Says that something is not tried, since a tool of PARTS is missing, and whether that is well."""
+    """Prints that a test is skipped because a tool of PARTS is missing. False if the variable CI is `true`."""
     print(line + (": CI is to have it" if is_ci() else ""), flush=True)
     return not is_ci()
 

@@ -1,8 +1,11 @@
-"""What is installed, in use: the links of the pages, what the libraries show, the samples in each language and linked in each way,
-the manual page and its example for a folder, the completions, the crate for cargo, and that nothing is left after `uninstall`. Where
-a tool is missing here, the line says so and its part is not tried.
+"""Installs wmod into a temporary folder, and tests the installed files.
 
-    .ci/packages.py ARCHIVE PROGRAM       libwm_c.a and wmod, as they were built
+    .ci/packages.py ARCHIVE PROGRAM       the built libwm_c.a and wmod
+
+It ends with status 1 at the first test that fails. It tests the links of the pages, the exported names of the
+libraries, the samples in each language and linked in each way, the manual page and its example for a folder, the
+completions, the crate for cargo, and that `uninstall` leaves nothing. If a tool is missing, the output says so and
+the tests that need it are skipped. Without the tools of needs.py nothing is tested, which is a failure in CI.
 """
 import os
 import pathlib
@@ -22,10 +25,10 @@ BESIDE = {"examples": TOP / "examples", "samples": TOP / "crates/wm_c/samples"}
 PREFIX = "/opt/x"
 STRICT = ["-pedantic", "-Wall", "-Wextra", "-Werror", "-pthread"]
 LANGUAGES = {"C89": ["cc", "-std=c89"], "C++98": ["c++", "-x", "c++", "-std=c++98", "-Wno-long-long"]}
-# the policy that a sample has of itself, as options of the program
+# the policy that each sample sets, as options of the program
 POLICIES = {"upload": "--limit 1000000 --max-functions 10000 --max-locals 1000 --max-open 500", "threads": "", "check": ""}
 MODULES = 40
-# what bash offers for the last of these words, and what it must not
+# the completions that bash must offer for the last of these words, and no others
 COMPLETED = {
     ("",): "check stats canon show build explain",
     ("c",): "check canon",
@@ -40,11 +43,11 @@ COMPLETED = {
 
 
 class Fault(Exception):
-    """What was not as it must be."""
+    """A test that failed, and why."""
 
 
 def run(*words, given=b"", wanted=0, seconds=120, **how):
-    """What a command prints. A status other than the wanted one is a fault; where none is wanted, both are returned."""
+    """Returns the output of a command, or its status and output if `wanted` is None. Raises `Fault` for any other status."""
     words = [str(it) for it in words]
     ran = subprocess.run(words, input=given, stdout=subprocess.PIPE, stderr=subprocess.PIPE, timeout=seconds, check=False, **how)
     said = ran.stdout.decode(errors="replace")
@@ -61,7 +64,7 @@ def same(what, found, wanted):
 
 
 class Package:
-    """What stands below a folder that only this run has."""
+    """An installation in a temporary folder."""
 
     def __init__(self, room, archive, program):
         self.room = pathlib.Path(room)
@@ -79,34 +82,34 @@ class Package:
         return {**os.environ, "PATH": f"{self.to / 'bin'}:{os.environ['PATH']}"}
 
     def has(self, tool, *trial):
-        """Whether the machine has a tool, which takes these words; where not, this is said at the end."""
+        """Whether the machine has a tool that runs with these arguments. If not, the last line of the output says so."""
         is_there = shutil.which(tool) and (not trial or run(tool, *trial, wanted=None)[0] == 0)
         if not is_there:
             self.said.append(f"no {tool}")
         return is_there
 
     def flags(self, *words):
-        """What pkg-config answers; below DESTDIR it is asked as a packager asks it."""
+        """Returns the answer of pkg-config, called as a packager does with DESTDIR."""
         folder = self.to / "lib/pkgconfig"
         env = {**os.environ, "PKG_CONFIG_PATH": "", "PKG_CONFIG_LIBDIR": str(folder), "PKG_CONFIG_SYSROOT_DIR": str(self.room / "dest")}
         return run("pkg-config", *words, "wmod", env=env).split()
 
 
 def declared():
-    """The names of the header's calls."""
+    """Returns the names of the header's functions."""
     text = (TOP / "crates/wm_c/include/wmod.h").read_text(encoding="utf-8")
     return sorted(re.findall(r"^\w+ (wmod_\w+)\(", text, re.M))
 
 
 def check_names(it):
-    """The libraries show the header's calls and no other name."""
+    """Checks that the libraries export the header's functions and no other name."""
     for words in (["nm", "-g", "--defined-only", it.to / "lib/libwmod.a"], ["nm", "-D", "--defined-only", it.to / "lib/libwmod.so"]):
         names = re.findall(r"^[0-9a-f]+ \w (\S+)$", run(*words), re.M)
         same(f"what {words[-1].name} shows", sorted(names), declared())
 
 
 def check_threads(it):
-    """No library has thread-local data: a handle may move between threads."""
+    """Checks that no library has thread-local data, since a handle may move between threads."""
     for name in ("libwmod.a", "libwmod.so"):
         same(f"thread-local data of {name}", re.findall(r"(?m)^.*\bTLS\b.*$", run("nm", "--format=sysv", it.to / "lib" / name)), [])
 
@@ -125,7 +128,7 @@ def has_static():
 
 
 def compiled(it):
-    """Each sample by its name, its language and how it is linked. None needs LD_LIBRARY_PATH."""
+    """Compiles each sample. Returns the programs by name, language and kind of link. None needs LD_LIBRARY_PATH."""
     ways = {"shared": [*it.flags("--libs"), f"-Wl,-rpath,{it.to / 'lib'}"], "archive": [it.to / "lib/libwmod.a"]}
     if has_static():
         ways["static"] = ["-static", *it.flags("--static", "--libs")]
@@ -142,7 +145,7 @@ def compiled(it):
 
 
 def check_samples(it, made):
-    """A sample's line is that of the program with the sample's policy, and it has none of what cannot be read."""
+    """Checks that a sample prints the line of wmod with the sample's policy, and none if its input cannot be read."""
     for number in range(MODULES):
         module, _ = c_calls.made(number)
         for name, policy in POLICIES.items():
@@ -157,7 +160,7 @@ def check_samples(it, made):
 
 
 def check_stops(sample):
-    """An upload is refused though it never ends, and one that is too long."""
+    """Checks that the sample refuses a bad upload before its end, and an upload that is too long."""
     with subprocess.Popen([sample], stdin=subprocess.PIPE, stdout=subprocess.PIPE) as process:
         process.stdin.write(b"\0asn and so on")
         process.stdin.flush()
@@ -171,7 +174,7 @@ def check_stops(sample):
 
 
 def check_memory(it, made):
-    """No sample reads what is not its own, and none keeps memory."""
+    """Checks with valgrind that no sample reads bad memory or leaks."""
     words = ["valgrind", "-q", "--leak-check=full", "--show-leak-kinds=all", "--errors-for-leak-kinds=all", "--error-exitcode=99"]
     for name in POLICIES if it.has("valgrind", "-q", "true") else ():
         sample = made[name, "C89", "archive"]
@@ -181,7 +184,7 @@ def check_memory(it, made):
 
 
 def folder_of_modules(it):
-    """A folder, and what the program answers to each of its files, whatever they are called."""
+    """Makes a folder of modules whose names have spaces and quotes. Returns it, and the answer of wmod to each file."""
     folder, answers = it.room / "what 'strangers' sent/modules", {}
     folder.mkdir(parents=True)
     for number in range(MODULES):
@@ -192,7 +195,7 @@ def folder_of_modules(it):
 
 
 def check_folder(it, folder, answers):
-    """The lines of check_all.sh are those of the program for the files that are refused."""
+    """Checks that check_all.sh prints the answers of wmod for the refused files."""
     script, env = it.pages / "examples/check_all.sh", it.with_program()
     same("whether check_all.sh is a program", os.access(script, os.X_OK), True)
     wanted = [f"{file}: {said}" for file, (status, said) in answers.items() if status]
@@ -203,7 +206,7 @@ def check_folder(it, folder, answers):
 
 
 def check_layout(it):
-    """The header's sizes, places and numbers are those that the crate for cargo believes."""
+    """Checks that the header's sizes, offsets and numbers are those that the crate for cargo uses."""
     lines = (TOP / "rust/layout.txt").read_text(encoding="utf-8")
     prints = "".join(f'  printf("{name} %lu\\n", (unsigned long)({name}));\n' for name in re.findall(r"(?m)^(.*) \d+$", lines))
     file = it.room / "layout.c"
@@ -224,7 +227,7 @@ def check_man(it, folder, answers):
 
 
 def check_example(it, page, folder, answers):
-    """The manual page's example for a folder prints each file's name beside its answer."""
+    """Checks that the manual page's example for a folder prints the name and the answer of each file."""
     examples = re.findall(r"(?m)^ +find .*(?:\n.+)*", page)
     same("how many examples begin with find", len(examples), 1)
     status, said = run("sh", "-c", examples[0], wanted=None, cwd=folder.parent, env=it.with_program())
@@ -234,7 +237,7 @@ def check_example(it, page, folder, answers):
 
 
 def check_pages(it):
-    """Each link of an installed page leads to a file that is installed, and each example and sample has a link."""
+    """Checks that each link of an installed page leads to an installed file, and that each example and sample has a link."""
     texts = [page.read_text(encoding="utf-8") for page in it.pages.glob("*.md")]
     links = {link for text in texts for link in re.findall(r"\]\(([^)]+)\)", text)}
     same("links that lead nowhere", sorted(link for link in links if not (it.pages / link).is_file()), [])
@@ -256,12 +259,12 @@ def check_completions(it):
 
 
 def cargo(crate, env, *words, wanted=0):
-    """What cargo says of the crate."""
+    """Returns the output of cargo on the crate."""
     return run("sh", "-c", 'exec cargo --offline "$@" 2>&1', "sh", *words, wanted=wanted, seconds=900, cwd=crate, env=env)
 
 
 def check_crate(it):
-    """The tests of the crate, and the lines of its example beside the program's."""
+    """Runs the tests of the crate, and compares its example with wmod."""
     if not it.has("cargo", "--version"):
         return
     crate = it.room / "rust"
@@ -281,7 +284,7 @@ def check_crate(it):
 
 
 def check_manifest(it, crate, env):
-    """A package lacks a licence alone, and its code calls nothing of std that is newer than its `rust-version`."""
+    """Checks that `cargo package` warns of the missing licence only, and that the code fits its `rust-version`."""
     unlicensed = "manifest has no license or license-file"
     warnings = re.findall(r"(?m)^warning: (.*)", cargo(crate, env, "package"))
     same("other warnings of cargo package", [line for line in warnings if not line.startswith(unlicensed)], [])
@@ -290,10 +293,10 @@ def check_manifest(it, crate, env):
 
 
 def check_unfound(it, crate, env):
-    """A build without the library says what to set. The documentation needs no library."""
+    """Checks that a build without the library says what to set, and that the documentation needs no library."""
     said = cargo(crate, {**env, "WMOD_LIB_DIR": str(it.room)}, "build", wanted=101)
     same("a folder without the library", f'WMOD_LIB_DIR is "{it.room}"' in said, True)
-    # with --target the flags are not for the build script, which needs a linker
+    # With --target the flags don't apply to the build script, which needs a linker.
     host = re.search(r"host: (\S+)", run("rustc", "-vV"))[1]
     env = {**env, "PKG_CONFIG_PATH": "", "PKG_CONFIG_LIBDIR": str(it.room), "RUSTFLAGS": "-Clinker=false"}
     del env["WMOD_LIB_DIR"]
@@ -302,7 +305,7 @@ def check_unfound(it, crate, env):
 
 
 def check_dist(it):
-    """Two folders have the same bytes, and what is unpacked anywhere is found by pkg-config."""
+    """Checks that two distributions have equal bytes, and that pkg-config finds an unpacked one."""
     files = [it.call("dist", it.room / name).strip() for name in ("one", "two")]
     run("cmp", *files)
     run("sha256sum", "-c", f"{os.path.basename(files[0])}.sha256", cwd=it.room / "one")
@@ -312,7 +315,7 @@ def check_dist(it):
 
 
 def check_linking(folder):
-    """Each command of the page for a program outside the linker's folders makes one that runs."""
+    """Checks that each link command of LIBRARY.md makes a program that runs."""
     pages, env = folder / "share/doc/wmod", {**os.environ, "PKG_CONFIG_PATH": str(folder / "lib/pkgconfig")}
     page = (pages / "LIBRARY.md").read_text(encoding="utf-8")
     for mark in ["-Wl,-rpath", "/libwmod.a", *(["--static"] if has_static() else [])]:
@@ -323,7 +326,7 @@ def check_linking(folder):
 
 
 def check_removed(it):
-    """A second install changes nothing. After uninstall nothing is left but what another put there."""
+    """Checks that a second install changes nothing, and that uninstall leaves only foreign files."""
     def listed():
         return sorted(f"{os.path.relpath(p, it.room)} {p.lstat().st_mode:o}" for p in (it.room / "dest").rglob("*"))
 
@@ -341,7 +344,7 @@ def check_removed(it):
 
 
 def check_all(it):
-    """Nothing can be tried without some tools (needs.py), which is a fault in CI."""
+    """Runs all tests. Skips them if a tool of needs.py is missing, which is a fault in CI."""
     missing = needs.missing("what is installed")
     if missing and needs.is_ci():
         raise Fault(f"CI is to have {', '.join(missing)}")
@@ -367,7 +370,7 @@ def check_all(it):
 
 
 def is_well(archive, program):
-    """Whether all is well; says so."""
+    """Whether all tests pass. Prints a line."""
     with tempfile.TemporaryDirectory(prefix="packages-") as room:
         it = Package(room, os.path.abspath(archive), os.path.abspath(program))
         try:

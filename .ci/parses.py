@@ -1,19 +1,24 @@
-"""A light look at whether a file still parses where an edit was made. There is no parser here, so this finds less than the prover does,
-and finds fault with nothing that parses. In the whole file: each bracket closes the one that is open, and each text ends. In the paragraphs of a .rt
-file that the edit changed: no operator lacks an operand, no two commas or semicolons follow one another, no keyword that begins
-something ends it, and outside of clauses no two operands follow one another.
+"""Finds simple syntax errors in a file that a must-fail edit changed. edits.py calls it.
+
+It has no parser, so it finds fewer errors than the prover, and none in a file that parses. In the whole file, each
+bracket must close the open one, and each string must end. In the paragraphs of a .rt file that the edit changed,
+
+- no operator lacks an operand;
+- no two commas or semicolons follow one another;
+- no keyword that begins something is at the end;
+- outside of clauses, no two operands follow one another.
 """
 import functools
 import re
 
-# comments, texts, characters and brackets; a quotation mark alone begins a text that does not end
+# comments, strings, characters and brackets; a quotation mark alone begins a string that does not end
 RUST = re.compile(
     r"""//[^\n]*|/\*.*?\*/|\bb?r(?P<marks>#*)".*?"(?P=marks)|"(?:\\.|[^"\\])*"|'(?:\\(?:x[0-9a-fA-F]{2}|u\{[^}]*\}|.)|[^'\\\n])'|[()\[\]{}"]""", re.S
 )
 ANTT = re.compile(r"""(?:^|(?<=[\s(){}\[\],;]))--[^\n]*|"(?:\\.|[^"\\\n])*"|[()\[\]{}«»"]""", re.M)
 CLOSES = {")": "(", "]": "[", "}": "{", "»": "«"}
 
-# (a type may begin with `<<`, and a value with `&&`)
+# not in BEHIND: `<<`, which may begin a type, and `&&`, which may begin a value
 BEHIND = r"(?:\+|/|%|\^|==|!=|<=|>=|=>|[-+*/%^&|]=)"
 BINARY = rf"(?:{BEHIND}|&&|<<)"
 NEVER = {
@@ -21,10 +26,10 @@ NEVER = {
     "two commas or semicolons": r"[,;]\s*[,;]",
     "a keyword at the end": r"\b(?:let|if|match|while|for|in|as|else|fn|mut|use|struct|enum|impl|ref)\b\s*[)\]};,]",
 }
-# from a ghost item to its semicolon, and a clause
+# the starts of a ghost item, which ends at its semicolon, and of a clause
 GHOST = re.compile(r"\bghost\b")
 CLAUSE = re.compile(r"\b(?:requires|ensures|invariant|decreases)\b[^{};]*\{")
-# two words, or a word behind a closing bracket: `struct Name`, `pub fn`, `) as u8`
+# two words, or a word after a closing bracket: `struct Name`, `pub fn`, `) as u8`
 TWO = re.compile(r"(?<!['\w])(?=(\w+|\)|\])\s+(\w+))")
 KEYWORDS = set(
     "as break const continue crate dyn else enum extern fn for ghost if impl in let loop match mod move mut pub ref return self Self static "
@@ -34,7 +39,10 @@ KEYWORDS = set(
 
 @functools.cache
 def taken_apart(text, suffix):
-    """The text without comments, the same with nothing in its texts, and its brackets; a quotation mark there is a text that does not end."""
+    """Returns the text without comments, the same with each string replaced by 0, and its brackets.
+
+    A quotation mark among the brackets is a string that does not end.
+    """
     said, bare, marks, at = [], [], [], 0
     for found in (ANTT if suffix == ".antt" else RUST).finditer(text):
         part, between = found[0], text[at : found.start()]
@@ -48,7 +56,7 @@ def taken_apart(text, suffix):
 
 
 def fault_of_brackets(marks):
-    """The first bracket that closes nothing or is left open, or a text that does not end; nothing, if all is well."""
+    """Returns the first unmatched bracket or open string, or "" if there is none."""
     opened = []
     for mark in marks:
         if mark in "([{«":
@@ -61,7 +69,7 @@ def fault_of_brackets(marks):
 
 
 def end_of(text, at, wanted):
-    """Where the first of these marks outside of brackets ends, from a place on."""
+    """Returns the end of the first of these marks outside of brackets, from an offset on."""
     depth = 0
     for place in range(at, len(text)):
         depth += (text[place] in "({[") - (text[place] in ")}]")
@@ -91,17 +99,17 @@ def faults_of_paragraph(text):
 
 
 def is_same(before, after, suffix):
-    """Whether two files differ in comments and layout alone."""
+    """Whether two files differ only in comments and layout."""
     return taken_apart(before, suffix)[0].split() == taken_apart(after, suffix)[0].split()
 
 
 def paragraphs(text, suffix):
-    """What stands between empty lines, without comments, attributes and visibilities, and with nothing in texts."""
+    """Returns the parts between empty lines, without comments, attributes, visibilities and the contents of strings."""
     return re.sub(r"#!?\[[^\]]*\]|\bpub\([^)]*\)", "", taken_apart(text, suffix)[1]).split("\n\n")
 
 
 def faults_of(before, after, suffix):
-    """What does not parse in an edited file that does so without the edit."""
+    """Returns the syntax errors of an edited file, given the file without the edit."""
     fault = fault_of_brackets(taken_apart(after, suffix)[2])
     if fault:
         return [fault]

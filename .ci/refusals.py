@@ -1,6 +1,12 @@
 #!/usr/bin/env python3
-"""The rows of both tables of docs/REFUSALS.md are those that the program wm_rows runs, and each printed word has one. They are also the
-lines of the table that `wmod explain` prints. The crate for cargo has the numbers and NAMEs of the header, and the sentences of that table."""
+"""Checks that docs/REFUSALS.md, wm_rows, `wmod explain`, the header and the crate for cargo agree on refusals.
+
+    .ci/refusals.py
+
+It prints each fault, and ends with status 1 if there is one. Both tables of the page must have the rows that wm_rows
+runs, with a row for each printed name. They must also have the lines of the table that `wmod explain` prints. The
+crate for cargo must have the numbers and NAMEs of the header, and the sentences of that table.
+"""
 import pathlib
 import re
 import sys
@@ -14,16 +20,16 @@ TABLE = "crates/wm_command/src/refusals.rt"
 HEADER = "crates/wm_c/include/wmod.h"
 CRATE = "rust/src/why.rs"
 
-# the groups of rows that each table has
+# the headings in wm_rows of the rows of each table
 INPUTS = "# The smallest inputs of the refusals"
 TEXTS = "# The smallest texts of the refusals"
 
-# a text needs gigabytes for the first, and the second is never printed
+# the names without a smallest text: the first needs gigabytes of text, and the second is never printed
 WITHOUT_TEXT = ["TooManyLocals", "Memory"]
 
 
 def rows_of_page(page):
-    """Each row of the first table: its word, and what wm_rows is to write."""
+    """Yields the name in each row of the first table, and the line that wm_rows must write for it."""
     row = re.compile(r"^\| `(\w+)` \|.*\| (with no header |with `--(?:limit|max-functions|max-locals|max-open) \d+` |)`((?:[0-9A-F]{2} ?)+)`: (refused at \d+) \|", re.M)
     for word, kind, digits, place in row.findall(page):
         header = "" if kind == "with no header " else "H "
@@ -39,14 +45,14 @@ def text_of(cell):
 
 
 def text_rows_of_page(page):
-    """The same of the table of texts."""
+    """Yields the same for the table of texts."""
     row = re.compile(r"^\| `(\w+)` \|.*\| (?:with `--(profile \d)` |)(the empty text|the byte `[0-9A-F]{2}`|`[^`|]+`): at (\d+) \|", re.M)
     for word, option, cell, place in row.findall(page):
         yield word, f"build{option and ' ' + option}{text_of(cell)} = text refused at {place}: {word}"
 
 
 def rows_of_group(top, heading):
-    """The rows of wm_rows between a heading and the next empty line."""
+    """Returns the rows of wm_rows between a heading and the next empty line."""
     lines = (top / ROWS).read_text(encoding="utf8").split("\n")
     first = lines.index(heading) + 1
     return lines[first : lines.index("", first)]
@@ -61,15 +67,15 @@ def printed_words(file, kind):
 
 
 def lines_of_tables(top):
-    """The lines of each of both constants, as the compiler reads them."""
+    """Yields the lines of each of the two constants, with escapes replaced."""
     text = re.sub(r"\\\n\s*", "", (top / TABLE).read_text(encoding="utf8"))
     for lines in re.findall(r'(?m)^pub const \w+: &str = "(.*)";$', text):
         yield re.sub(r"\\(.)", lambda it: "\n" if it[1] == "n" else it[1], lines).split("\n")
 
 
 def explained(top, page):
-    """What is a row of the page and no line of the table, or the other way about, in their order."""
-    # (what is proved of a name has a column of its own, and is not printed)
+    """Returns a fault for each row that only one of the page and the table has, or if their order differs."""
+    # `wmod explain` does not print the column that says whether the name is proved.
     row = re.compile(r"^\| `(\w+)` \| ((?:[^|]+ \| ){3}[^|]+) \|(?: (?:proved|in part proved|tested) \|)?$", re.M)
     rows = [f"{name} | {rest}" for name, rest in row.findall(page)]
     lines = [line for lines in lines_of_tables(top) for line in lines]

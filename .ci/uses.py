@@ -1,27 +1,27 @@
-"""What `use` lines bring, of .antt and of .rt files, in any spelling: nested braces, several lines, `as`, `pub use`, escaped names."""
+"""Reads the `use` lines of .antt and .rt files: nested braces, several lines, `as`, `pub use`, escaped names."""
 import re
 
 USE = re.compile(r"(?<![\w.])(?:unfoldable\s+)?(?:pub\s+)?use\s+(?!\{)")
-# a word of a `use` line, which ends before each of these marks
+# a word of a `use` line, or one of these marks
 WORD = re.compile(r"\s*([{},]|[^\s{},]+)")
-# a text in quotation marks, in which nothing begins a comment, or a comment
+# a string, in which nothing begins a comment, or a comment
 COMMENT = re.compile(r'("(?:\\.|[^"\\\n])*")|(?:^|(?<=[\s(){}\[\],;]))--.*$', re.M)
 
 
 def without_comments(text):
-    """The text of an .antt file without comments to the end of a line, and without the marks of escaped names."""
+    """Returns the text of an .antt file without line comments, and without the marks of escaped names."""
     return COMMENT.sub(lambda found: found[1] or "", text).replace("«", "").replace("»", "")
 
 
 class Tree:
-    """Reads one `use` line: `leaves` has each name that it brings, with its path, and `end` is where it ends in the text."""
+    """Reads one `use` line. `leaves` has each imported name with its path, and `end` is the end of the line."""
 
     def __init__(self, text, at):
         self.text, self.end, self.leaves = text, at, []
         self.read("")
 
     def next(self, wanted=""):
-        """The next word; nothing, if it is another than the wanted one."""
+        """Returns the next word, or "" if it is not the wanted one."""
         found = WORD.match(self.text, self.end)
         if found is None or wanted not in ("", found[1]):
             return ""
@@ -29,7 +29,7 @@ class Tree:
         return found[1]
 
     def read(self, before):
-        """Reads a path, and what stands in the braces behind it."""
+        """Reads a path, and the paths in the braces after it."""
         path = before + self.next()
         if path.endswith(".") and self.next("{"):
             while not self.next("}") and self.text[self.end :].strip():
@@ -40,7 +40,7 @@ class Tree:
 
 
 def read(text):
-    """Each name that the `use` lines of an .antt file bring, with its whole path; and the text without these lines and comments."""
+    """Returns each name that an .antt file imports, with its whole path, and the text without `use` lines and comments."""
     text = without_comments(text)
     leaves, rest, at = [], [], 0
     for found in USE.finditer(text):
@@ -53,7 +53,7 @@ def read(text):
 
 
 def whole(path, known):
-    """A path from its library on, where another `use` line may have brought its first name."""
+    """Returns a path from its library on. Another `use` line may have imported its first name."""
     seen = set()
     while True:
         path = path.removeprefix("package.")
@@ -65,6 +65,6 @@ def whole(path, known):
 
 
 def read_source(text):
-    """Each name that the `use` lines of a .rt file bring, with its path, in which `.` stands for `::`."""
+    """Returns each name that a .rt file imports, with its path, written with `.` for `::`."""
     lines = re.findall(r"(?m)^(?:pub(?:\([^)]*\))? )?use ([^;]*);", text)
     return [leaf for line in lines for leaf in Tree(line.replace("::", "."), 0).leaves]

@@ -1,7 +1,11 @@
 #!/usr/bin/env python3
-"""The release is one number in all places. `wmod --version` is the source: packaging/stage.py asks the built program, and fills the
-manual page and the pkg-config file from its answer. The header repeats the number. The crate for cargo has the same first two
-parts; cargo requires a third.
+"""Checks that all files have the same release number.
+
+    .ci/versions.py
+
+It prints each fault, and ends with status 1 if there is one. The source is the number that `wmod --version` prints.
+packaging/stage.py asks the built program, and fills the manual page and the pkg-config file from its answer. The
+header repeats the number. The crate for cargo has the same first two parts, and a third that cargo requires.
 """
 import pathlib
 import re
@@ -10,7 +14,7 @@ import sys
 TOP = pathlib.Path(__file__).resolve().parent.parent
 COMMAND, HEADER = "crates/wm_command/src/line.rt", "crates/wm_c/include/wmod.h"
 CRATE, PKG_CONFIG = "rust/Cargo.toml", "packaging/wmod.pc.in"
-# the text around the number in each file, and for the crate that around its first two parts
+# the text around the number in each file; for the crate, around its first two parts
 FORMS = {
     COMMAND: r'\.version\("(.*?)"\)',
     HEADER: r'(?m)^#define WMOD_RELEASE "(.*)"$',
@@ -20,7 +24,7 @@ FORMS = {
 
 
 def faults_of(top):
-    """Yields the files without just one number, or else those with another number than the source."""
+    """Yields the files without exactly one number, or else those whose number differs from the source."""
     found = {file: re.findall(form, (top / file).read_text(encoding="utf-8")) for file, form in FORMS.items()}
     wrong = [file for file, numbers in found.items() if len(numbers) != 1]
     yield from (f"{file}: {len(found[file])} places have the form {FORMS[file]}" for file in wrong)
