@@ -1,10 +1,18 @@
-/* Makes the calls of the lines of standard input, one after another, and writes each line again with what its call answers behind
- * ` = `. `begin PROFILE LIMIT` and `validate PROFILE LIMIT INPUT`; with all seven options `options` and `with`, where `-` is no
- * limit. An answer has its eight fields. Inputs stand as hexadecimal digits; `H` is the header, and `.` nothing. `canon`, `show`
- * and `build` take the size of the buffer first, then the options, and of `build` the input is a text. They answer the output's
- * four fields, and what stands in the buffer: as hexadecimal digits, or as a text with `|` for a line feed. `name NUMBER ROOM`
- * answers the length and what stands in the room, with `0` for its end. `feed` takes a piece, `finish` answers the eight fields, `end`
- * has no answer and is written as 0, `held` says whether the handle holds something, and `version` is the library's.
+/* Makes the call of each line of standard input, and prints the line with ` = ` and the answer of the call.
+ *
+ *   validate PROFILE LIMIT INPUT, with OPTIONS INPUT      the status and the eight fields of the answer
+ *   begin PROFILE LIMIT, options OPTIONS                  the status
+ *   feed INPUT                                            the status
+ *   finish                                                the status and the eight fields of the answer
+ *   end                                                   0, since the call returns nothing
+ *   held                                                  1 if the handle holds something, else 0
+ *   canon, show or build: ROOM OPTIONS INPUT              the status, the four fields of the output, and the buffer
+ *   name NUMBER ROOM                                      the length and the buffer, with `0` for its end
+ *   version                                               the version of the library
+ *
+ * OPTIONS are all seven options, with `-` for no limit. INPUT is in hexadecimal digits: `H` is the header, and `.` is the
+ * empty input. For `build` it is a text. ROOM is the size of the buffer. `canon` and `build` print the buffer in
+ * hexadecimal digits, and `show` prints it as a text with `|` for a line feed.
  */
 #include "wmod.h"
 #include <stdio.h>
@@ -14,7 +22,7 @@
 enum { LINE = 1000, ROOM = 100, HEADER = 8 };
 
 static const uint8_t header[HEADER] = {0, 'a', 's', 'm', 1, 0, 0, 0};
-/* what is left of the line at hand */
+/* the unread rest of the line */
 static const char *rest;
 
 static void fail(const char *what) {
@@ -22,7 +30,7 @@ static void fail(const char *what) {
   exit(3);
 }
 
-/* The next word of the line. */
+/* Reads the next word of the line. */
 static void word(char *into, size_t room) {
   size_t length = strcspn(rest, " ");
   if (length == 0 || length >= room) fail("no word");
@@ -31,7 +39,7 @@ static void word(char *into, size_t room) {
   rest += length + (rest[length] == ' ');
 }
 
-/* The next word, a number; `-` is the greatest. */
+/* Reads a number. `-` is WMOD_NO_LIMIT. */
 static uint64_t number(void) {
   char digits[30];
   const char *at;
@@ -64,7 +72,7 @@ static unsigned digit(char c) {
   return 0;
 }
 
-/* The bytes that the rest of the line stands for. */
+/* Reads the rest of the line as an input. Returns its length. */
 static size_t input(uint8_t *bytes) {
   size_t length = 0;
   if (strcmp(rest, ".") == 0) return 0;
@@ -86,7 +94,7 @@ static void say_answer(uint32_t ended, const wmod_answer *answer) {
   printf(" %lu %lu", (unsigned long)answer->controls, (unsigned long)answer->probes);
 }
 
-/* What stands in a buffer; `?` is what was there before. */
+/* Prints a buffer. `?` is a byte that the call did not write. */
 static void say_room(const uint8_t *out, size_t room, int in_digits) {
   size_t i;
   for (i = 0; i < room; i++) {
@@ -147,7 +155,7 @@ static void why_name(void) {
   for (i = 0; i < room; i++) putchar(out[i] ? out[i] : '0');
 }
 
-/* A call on the handle. */
+/* Makes a call on the handle. */
 static void piecewise(wmod_validator *v, const char *name) {
   uint8_t bytes[LINE];
   wmod_options options;

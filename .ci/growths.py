@@ -148,7 +148,7 @@ def beginnings(written):
 
 
 def swept(name, program, runs, kind_of_run, gives_back=False):
-    """Refuses each growth of each run in turn. Whether all runs end well; prints the number of runs of each kind.
+    """Refuses each growth of each run in turn. Whether all runs end well; prints how many end in which way.
 
     With `gives_back`, a run must also free all its blocks.
     """

@@ -1,5 +1,5 @@
-/* Each call that takes bytes, handed none at NULL, and each that takes a buffer, handed NULL and no room. A line for each call:
- * what it returns, then the number of the refusal and its place, or the length.
+/* Calls each function that takes bytes with NULL and length 0, and each that takes a buffer with NULL and no room. Prints
+ * a line for each call: the returned value, then the number of the refusal and its offset, or the length.
  */
 #include "wmod.h"
 #include <stdio.h>

@@ -47,7 +47,7 @@ class Fault(Exception):
 
 
 def run(*words, given=b"", wanted=0, seconds=120, **how):
-    """Returns the output of a command, or its status and output if `wanted` is None. Raises `Fault` for any other status."""
+    """Returns the output of a command, or its status and output if `wanted` is None. Another status raises `Fault`."""
     words = [str(it) for it in words]
     ran = subprocess.run(words, input=given, stdout=subprocess.PIPE, stderr=subprocess.PIPE, timeout=seconds, check=False, **how)
     said = ran.stdout.decode(errors="replace")
@@ -82,7 +82,7 @@ class Package:
         return {**os.environ, "PATH": f"{self.to / 'bin'}:{os.environ['PATH']}"}
 
     def has(self, tool, *trial):
-        """Whether the machine has a tool that runs with these arguments. If not, the last line of the output says so."""
+        """Whether the machine has a tool that runs with these arguments. If not, the last line of output says so."""
         is_there = shutil.which(tool) and (not trial or run(tool, *trial, wanted=None)[0] == 0)
         if not is_there:
             self.said.append(f"no {tool}")
@@ -237,7 +237,7 @@ def check_example(it, page, folder, answers):
 
 
 def check_pages(it):
-    """Checks that each link of an installed page leads to an installed file, and that each example and sample has a link."""
+    """Checks that each link of an installed page leads to an installed file, and each example and sample has a link."""
     texts = [page.read_text(encoding="utf-8") for page in it.pages.glob("*.md")]
     links = {link for text in texts for link in re.findall(r"\]\(([^)]+)\)", text)}
     same("links that lead nowhere", sorted(link for link in links if not (it.pages / link).is_file()), [])

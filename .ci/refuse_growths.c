@@ -1,6 +1,7 @@
-// Loaded before a program, it refuses one growth of it, or that one and all after it: malloc, calloc and realloc as they are
-// called from outside of the C library. REFUSE says which, from 1 on, and REFUSE_ON whether those after it too. At the end it
-// writes to the file TELL how many growths there were, how many it refused, and how many blocks were not given back.
+// A library for LD_PRELOAD that refuses growths of a program. A growth is a call of malloc, calloc or realloc from outside
+// the C library. The variable REFUSE has the number of the growth to refuse, from 1 on. If REFUSE_ON is set, all later
+// growths are refused too. At the end it writes to the file TELL the number of growths, the number refused, and the number
+// of blocks that were not freed.
 #define _GNU_SOURCE
 #include <errno.h>
 #include <stdio.h>
@@ -48,7 +49,7 @@ __attribute__((destructor)) static void tell(void) {
     long counted = count, failed = refused, left;
     FILE *to;
     at = -1;
-    // the buffers of these are the C library's own
+    // frees the buffers of the C library, which are not the program's
     fclose(stdin);
     fclose(stdout);
     left = blocks;

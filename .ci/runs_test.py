@@ -1,10 +1,15 @@
 #!/usr/bin/env python3
-"""That the gate can fail. The small scripts are given copies of what they read (script_trials.py); growths.py, deep.py and command.py a stand-in for
-wmod and for wm_rows, c_calls.py one for c_rows; and wm_rows and the tests of wm_cli stand on libraries: as they should be and then with one
-thing wrong.
+"""Tests that the scripts of CI can fail.
 
-    .ci/runs_test.py             all of these, which takes a quarter of an hour
-    .ci/runs_test.py --scripts   the small scripts alone, some seconds
+    .ci/runs_test.py             all trials, a quarter of an hour
+    .ci/runs_test.py --scripts   only the trials of script_trials.py, half a minute
+
+It prints each trial that went wrong, and ends with status 1 if there is one. Each script runs on correct input, and
+then on input with one fault, which it has to find:
+
+- the scripts that read the tree get changed copies of their files (script_trials.py);
+- growths.py, deep.py and command.py get stand-ins for wmod and wm_rows, and c_calls.py one for c_rows;
+- wm_rows and the tests of wm_cli get libraries with a must-fail edit.
 """
 import contextlib
 import io
@@ -24,7 +29,7 @@ import edits
 import growths
 import script_trials
 
-# answers `valid` to all, with one growth; a text is told `module`
+# answers `valid` to every input, and allocates once
 STAND_IN = """
 #include <stdio.h>
 #include <stdlib.h>
@@ -50,10 +55,10 @@ int main(int count, char **words) {
 """
 
 RIGHT = "return out_of_memory();"
-# where its second growth is refused it gives back the first or keeps it
+# if its second growth is refused, it leaks the first (KEEPS) or frees it (GIVES_BACK)
 KEEPS = "char *more = malloc(1); if (!more) return out_of_memory();"
 GIVES_BACK = KEEPS.replace("return", "return free(part),") + ' free(more); free(part); write(1, "valid\\n", 6); return 0;'
-# what is done where the growth was refused, what is done with each input, and whether growths.py finds fault with it
+# the code for a refused growth, the code for each input, and whether growths.py accepts the stand-in
 TRIALS = {
     "nothing wrong": (RIGHT, "", True),
     "the refusal is forgotten": ("part = given;", "write(1, part == given ? \"in\" : \"\", part == given ? 2 : 0);", False),
@@ -64,7 +69,7 @@ TRIALS = {
 }
 
 RIGHT_IN_ROWS = 'write(2, "Error: Kind(OutOfMemory)\\n", 25); return 1;'
-# the same for wm_rows
+# the code of a stand-in for wm_rows if its growth is refused, and whether growths.py accepts it
 TRIALS_OF_ROWS = {
     "nothing wrong": (RIGHT_IN_ROWS, True),
     "the refusal is told as another answer": (f'write(1, "no\\n", 3); {RIGHT_IN_ROWS}', False),
@@ -74,14 +79,14 @@ TRIALS_OF_ROWS = {
     "the refusal ends it by a signal": ("abort();", False),
 }
 
-# an edit that the prover refuses, and what wm_rows answers to two rows where it is made
+# rows for wm_rows; SEEDS has its answers to them under each edit
 ROWS = ["check H 01 01 00 01 01", "show H"]
 
-# how long the modules are in which a body stands behind a list that is let go: of ops, and of open blocks
+# the sizes of the modules with a body after a list that is freed: of ops, and of open blocks
 PAST = growths.MOST_KEPT + 1
 BEHIND_OPS = len(growths.module_of(growths.NOP * PAST, growths.NOP))
 BEHIND_BLOCKS = len(growths.module_of(growths.BLOCK * PAST + growths.END * PAST, growths.BLOCK + growths.END))
-# which modules take one growth more, and whether growths.py finds that long lists are let go
+# the modules that take one growth more, and whether growths.py finds that long lists are freed
 LISTS = {
     "both are let go": (f"size == {BEHIND_OPS} || size == {BEHIND_BLOCKS}", True),
     "that of ops stays": (f"size == {BEHIND_BLOCKS}", False),
@@ -89,11 +94,11 @@ LISTS = {
     "each body takes one": ("size > 1000", False),
 }
 
-# how long the modules are whose name is cut, and the one with no name: which take one growth more, and whether growths.py finds that
-# names are lent just where they are not cut
+# the sizes of the modules whose name is cut, and of the one without a name
 CUT_NAMES = [len(growths.behind(place, growths.NAMED)) for place in growths.CUTS]
 NO_NAME = len(growths.behind(0, ""))
 IS_CUT = " || ".join(f"size == {it}" for it in CUT_NAMES)
+# the modules that take one growth more, and whether growths.py finds that only cut names are copied
 NAMES = {
     "all that are cut are copied": (IS_CUT, True),
     "none is copied": ("0", False),
@@ -102,28 +107,29 @@ NAMES = {
     "each is copied, and what is cut twice": (f"size > {NO_NAME} && malloc(1) && ({IS_CUT})", False),
     "one beside a cut is copied": (f"{IS_CUT} || size == {max(CUT_NAMES) + 1}", False),
 }
-# the same of empty bodies
+# the modules that take one growth more, and whether growths.py finds that empty bodies take none
 EMPTY = {
     "they take no growth": ("0", True),
     "each takes one": (f"size > {len(growths.module_of(*[b''] * 5))}", False),
 }
 
-# what a stand-in for c_rows does with the file of all rows, and whether c_calls.py finds no fault with it
+# the shell command by which a stand-in for c_rows writes the file of all rows, and whether c_calls.py accepts it
 TRIALS_OF_CALLS = {
     "nothing wrong": ("cat", True),
     "another answer": ("sed s/TooLarge/TooSmall/", False),
     "a row is missing": ("sed 3d", False),
     "it ends by a fault": ("(cat; false) <", False),
 }
+# an edit that the prover refuses, and the answers of wm_rows to ROWS if it is made
 SEEDS = {
     None: ["refused at 12: SectionOrder", "text:\n(module)\n"],
-    # a refusal is forgotten
+    # forgets a refusal
     "wm_rules/loader_forgets_a_refusal": ["differs in small pieces", "text:\n(module)\n"],
-    # a cut loses bytes
+    # loses bytes at a cut
     "wm_rules/validator_forgets_a_piece": ["the validator and the loader differ"] * 2,
 }
 
-# what a stand-in for wmod writes by these words, and whether command.py finds it the answer
+# a row's arguments and answer, the commands of a stand-in for wmod, and whether command.py accepts them
 TRIALS_OF_COMMANDS = {
     "nothing wrong": ("wmod check", '1 "valid\\n" ""', "echo valid; exit 1", True),
     "another status": ("wmod check", '0 "valid\\n" ""', "echo valid; exit 1", False),
@@ -133,13 +139,13 @@ TRIALS_OF_COMMANDS = {
     "the same, which is forgotten": ("shut wmod check", '3 "" ""', "echo valid 2>/dev/null; exit 0", False),
 }
 
-# an edit that the prover refuses, and whether this test of wm_cli then names a row (`rt try` may be too slow for all of them)
+# an edit that the prover refuses, and whether the test in NAMED then fails and names a row
 NAMED = re.compile(r"test tests::readers_and_writers_that_fail \.\.\. FAILED\n    (?:\w+ \d+ )?wmod ")
 ENDS = {
     None: False,
-    # a source is read on after a refusal
+    # reads on after a refusal
     "wm_rules/read_after_a_refusal": True,
-    # a writer's fault is swallowed, or told with a wrong count
+    # swallows a writer's error, or reports it with a wrong count
     "wm_write/failed_print_ends_well": True,
     "wm_write/fault_counts_nothing": True,
 }
@@ -154,7 +160,7 @@ def built(room, refused, deeper):
 
 
 def standing_in(room, does):
-    """The room with a stand-in for c_rows, which writes all rows by this command."""
+    """Puts a stand-in for c_rows that writes all rows by this command into a folder. Returns the folder."""
     rows, program = pathlib.Path(room, "rows"), pathlib.Path(room, "c_rows")
     rows.write_text("".join(f"{row}\n" for row in c_calls.rows()), encoding="ascii")
     program.write_text(f"#!/bin/sh\n{does} {rows}\n", encoding="ascii")
@@ -163,7 +169,7 @@ def standing_in(room, does):
 
 
 def is_answer(room, words, wanted, does):
-    """Whether command.py finds that a stand-in which does this by these words answers so."""
+    """Whether command.py gets the wanted answer from a stand-in that runs these commands."""
     program = pathlib.Path(room, "commanded")
     program.write_text(f"#!/bin/sh\ntrap '' PIPE\n{does}\n", encoding="ascii")
     program.chmod(0o755)
@@ -171,7 +177,7 @@ def is_answer(room, words, wanted, does):
 
 
 def tried_with(room, edit, crate, *words, given=""):
-    """What `rt try` prints of a crate where this edit is made. It runs unproved."""
+    """Returns the output of `rt try` on a crate with this edit. `rt try` does not prove."""
     copy = f"{room}/copy"
     shutil.copytree("..", copy, ignore=shutil.ignore_patterns("out", ".git"))
     if edit:
@@ -182,12 +188,12 @@ def tried_with(room, edit, crate, *words, given=""):
 
 
 def answers_with(room, edit):
-    """What wm_rows prints of the rows, without its last line."""
+    """Returns the output of wm_rows for ROWS, without its last line."""
     return tried_with(room, edit, "wm_rows", given="".join(f"{row}\n" for row in ROWS)).rpartition("# ")[0]
 
 
 def make(crates, edit):
-    """Makes an edit of one pair in this copy of the crates."""
+    """Makes an edit of one pair in a copy of the crates."""
     crate, name = edit.split("/")
     folder = pathlib.Path(crates, crate)
     [(path, old, new)] = edits.pairs_of(edits.edits_of(folder)[name])
@@ -232,7 +238,7 @@ def trials_of_commands(room):
 
 
 def trials_of_depth(room):
-    # (no stand-in answers all that deep.py asks: what is looked at is how it ends)
+    # A stand-in cannot give all answers that deep.py wants, so only the end of one run is compared.
     for name, deeper, wanted in (("nothing wrong", "", (0, b"valid\n")), ("it recurses", "nested(1000000);", (-11, b""))):
         if deep.run(built(room, RIGHT, deeper), "check", deep.DEEP) != wanted:
             yield f"deep.py and a stand-in: {name}"
@@ -247,7 +253,7 @@ def trials_of_libraries(room):
             yield f"readers and writers that fail, where {edit or 'nothing'} is edited"
 
 
-# each yields the trials that went wrong
+# each function yields the trials that went wrong
 OF_SCRIPTS = [
     script_trials.trials_of_believed,
     script_trials.trials_of_definitions,
@@ -268,7 +274,7 @@ def main():
         sys.exit(__doc__)
     faults = []
     for trials in OF_SCRIPTS if sys.argv[1:] else [*OF_SCRIPTS, *OF_RUNS]:
-        # (what a small script says of what is wrong on purpose tells a reader nothing)
+        # The faults in these trials are deliberate, so the output of the scripts is dropped.
         quiet = contextlib.redirect_stdout(io.StringIO() if trials in OF_SCRIPTS else sys.stdout)
         with tempfile.TemporaryDirectory(prefix="runs-test-") as room, quiet:
             faults += trials(room)

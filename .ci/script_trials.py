@@ -1,6 +1,9 @@
-"""Shows that the small scripts can fail: each gets a copy of what it reads, as it is and then with one thing wrong, and has to find just
-that. So do .ci/run and a first build, with a stand-in for `rt`, and what counts rows or wants tools. Each function yields the trials
-that went wrong."""
+"""Tests that the scripts that read the tree can fail. runs_test.py calls it.
+
+Each script gets a copy of its files, unchanged and then with one fault, and has to find that fault. There are also
+trials of .ci/run and packaging/build.py with a stand-in for `rt`, of the scripts that count rows, and of those that
+need tools. Each function `trials_of_..` yields the trials that went wrong.
+"""
 import contextlib
 import functools
 import os
@@ -27,10 +30,11 @@ import versions
 TOP = pathlib.Path(__file__).resolve().parent.parent
 
 RULES = "crates/wm_rules/specs"
-# where the `use` lines of a definition begin, and what believed.py says
+# the start of a file's `use` lines, and two messages of believed.py
 FIRST = r"(?m)^use "
 EXACT, WORD = "names an exact answer", "names a word that names the exact answer"
-# by what is wrong: the file, what is replaced in it (nothing: it is new), by what, and what the script has to say
+# for each fault: the file, the pattern that is replaced in it ("" for a new file), the replacement, and a part of the
+# message that the script must print
 TRIALS_OF_DEFINITIONS_READ = {
     "an exact answer": (f"{RULES}/Policies.antt", FIRST, "use Rattle.wm_rules.specs.exact.Checking.{after}\nuse ", EXACT),
     "their folder, in braces": (f"{RULES}/Policies.antt", FIRST, "use Rattle.wm_rules.specs.{exact}\nuse ", EXACT),
@@ -87,7 +91,7 @@ TRIALS_OF_DEFINED = {
     "a law is gone": (DEFINED, "`one_reading`", "`one_writing`", f"{OF_LAWS}: `one_writing` is no law of wm_machine"),
     "another name is gone": (DEFINED, "`HasOps`", "`HasOpcodes`", f"{DEFINED}: `HasOpcodes` is nothing"),
 }
-# what is written behind a file, or in a new one
+# the same, with text added at the end of a file or written to a new one
 TRIALS_OF_WORDS = {
     "a clause with a word more": (
         "crates/wm_rules/src/policy.rt",
@@ -178,7 +182,7 @@ TRIALS_OF_EDITS = {
     "a row of none": (edits.PAGE, r"`ties_rounded_up`", "`ties_rounded_down`", "other edits in must-fail/ than rows"),
 }
 
-# what a stand-in for rt says and how it ends, and how .ci/run does
+# the output and the status of a stand-in for rt, and the status that .ci/run must have
 SHOWS_NOTHING = ("BAD EDIT: it does not compile", "refused, but only because a proof file names what it takes away", "refused only by a limit", "NOT REFUSED")
 SAID_BY_RT = {
     "nothing wrong": ("must-fail wm_a/b.edit: refused, as it must be", 0, 0),
@@ -189,7 +193,7 @@ SAID_BY_RT = {
 
 
 def copied(room, name, *patterns):
-    """A folder with what these patterns name of the tree, as it lies there."""
+    """Copies the files of the tree that match the patterns into a folder. Returns the folder."""
     top = pathlib.Path(room, name)
     for pattern in patterns:
         for found in sorted(TOP.glob(pattern)):
@@ -204,7 +208,7 @@ def copied(room, name, *patterns):
 
 @contextlib.contextmanager
 def changed(file, old, new):
-    """Does this with a file changed in one place, or made; how often it was changed."""
+    """Runs the block with one replacement made in a file, or with a new file. Yields the number of replacements."""
     stood = file.read_text(encoding="utf-8") if file.is_file() else None
     text, count = re.subn(old, new, stood or "", count=1)
     file.parent.mkdir(parents=True, exist_ok=True)
@@ -219,7 +223,7 @@ def changed(file, old, new):
 
 
 def said_by(finds, top):
-    """What a script says of a tree. What it ends by, too."""
+    """Returns the faults that a script finds in a tree. If the script exits, its message is the only fault."""
     try:
         return list(finds(top))
     except SystemExit as ended:
@@ -227,7 +231,7 @@ def said_by(finds, top):
 
 
 def played(script, finds, top, trials):
-    """The trials of a script that it does not find so."""
+    """Yields the trials in which a script does not find just the fault."""
     found = said_by(finds, top)
     if found:
         yield f"{script}: nothing wrong: {found[0]}"
@@ -277,7 +281,7 @@ def trials_of_edits(room):
 
 
 def trials_of_run(room):
-    """.ci/run, where the scripts but edits.py and needs.py are empty, and `rt` says what it is told to."""
+    """Runs .ci/run with empty scripts, except edits.py, parses.py and needs.py, and with a stand-in for `rt`."""
     top = copied(room, "run", ".ci/run", ".ci/edits.py", ".ci/parses.py", ".ci/needs.py", edits.PAGE)
     (top / "crates").mkdir()
     for name in ("believed", "definitions", "refusals", "readme", "versions"):
@@ -294,7 +298,7 @@ def trials_of_run(room):
 
 
 def trials_of_rows(room):
-    """Files of rows that are empty, and one with a row less."""
+    """Tries empty files of rows, and one that lacks a row."""
     empty, program = pathlib.Path(room, "no_rows.txt"), pathlib.Path(room, "c_rows")
     empty.write_text("", encoding="ascii")
     program.write_text('#!/bin/sh\nhead -n "$(wc -l)" "$0.txt"\n', encoding="ascii")
@@ -313,7 +317,7 @@ def trials_of_rows(room):
     c_calls.ROWS, command.ROWS = rows
 
 
-# `rt` in a first build: it notes the crate that it is called for, and fails for one
+# a stand-in for `rt` in a first build: it writes down each crate that it is called for, and fails for one
 NOTING_RT = """#!/bin/sh
 crate=$(basename "$PWD")
 echo "$crate" >> "$NOTED"
@@ -322,7 +326,7 @@ echo "$crate" >> "$NOTED"
 
 
 def first_build(room, lines, failing=""):
-    """The status of packaging/build.py over such a crates.txt, and the crates that `rt` was called for."""
+    """Runs packaging/build.py with these lines in crates.txt. Returns its status, and the crates given to `rt`."""
     top = pathlib.Path(tempfile.mkdtemp(dir=room))
     shutil.copytree(TOP / "packaging", top / "packaging", ignore=shutil.ignore_patterns("__pycache__"))
     (top / "crates.txt").write_text("".join(f"{line}\n" for line in lines), encoding="utf-8")
@@ -337,7 +341,7 @@ def first_build(room, lines, failing=""):
 
 
 def trials_of_build(room):
-    """A first build begins each crate once, behind those below it. It fails by a crate that does, and by a circle."""
+    """Tests that a first build builds each crate once, after its dependencies, and fails for a bad crate or a cycle."""
     lines = ["low:", "left: low", "right: low std", "top: left right", "beside: low"]
     status, called = first_build(room, lines)
     if status or sorted(called) != ["left", "low", "right", "top"] or called[0] != "low" or called[-1] != "top":
@@ -352,7 +356,7 @@ def trials_of_build(room):
 
 @contextlib.contextmanager
 def machine(folder, ci):
-    """Does this on a machine that has no tools but those of a folder, in CI or not."""
+    """Runs the block with only the tools of a folder on the path, and with the variable CI set to `ci`."""
     stood = {name: os.environ.get(name) for name in ("PATH", "CI")}
     os.environ.update({"PATH": str(folder), "CI": ci})
     yield
@@ -363,7 +367,7 @@ def machine(folder, ci):
 
 
 def trials_of_tools(room):
-    """A machine without tools is well, but in CI; one without `rt` never is."""
+    """Tests that missing tools are a failure only in CI, and that a missing `rt` always is."""
     folder = pathlib.Path(room, "tools")
     folder.mkdir()
     parts = {

@@ -40,7 +40,7 @@ class Tree:
 
 
 def read(text):
-    """Returns each name that an .antt file imports, with its whole path, and the text without `use` lines and comments."""
+    """Returns each name that an .antt file imports, with its path, and the text without `use` lines and comments."""
     text = without_comments(text)
     leaves, rest, at = [], [], 0
     for found in USE.finditer(text):
