@@ -1,17 +1,22 @@
 #!/usr/bin/env python3
-"""Compares `wmod check` with node and wasm-validate, where these are there: `compare.py [SHAPE..]`.
+"""Measures wmod on modules of each shape of make_module.py, and compares it with other programs if they are installed.
 
-For each shape it makes a module of 7 MB, and prints MB/s of processor time (medians of five runs, all programs in
-turn), instructions a byte where valgrind is there, and the peak memory of wmod. A shape with floats is measured with
-`--profile 3`. With `--growth` it makes modules of 2 MB, 4 MB and 8 MB and prints the time a byte on each and how many
-times it grows, by the least of fifteen runs of each, the start of the program left out. With `--ratios` it prints how
-many times as fast each of the five actions is as node or the program of wabt that does the same, on modules of 2 MB, all
-in turn. With `--canon` or `--show` it measures that action on the two: MB/s, that growth, the peak memory, and how many
-bytes of memory a byte of the module takes. With `--build` it measures that action on the texts that `wmod
-show` prints of modules of 0.5 MB and 2 MB, beside wat2wasm where it is there; what is built has to be what `wmod canon`
-writes. With `--assemble` it measures nothing: wat2wasm makes binaries of such texts, of modules of 0.1 MB and 2 MB, and
-a line for each says whether its bytes are those of `wmod canon`. The status is 1 where some binary has other bytes, or
-none was made. `--program=PATH` measures a program that stands built, and not the one of this tree.
+    compare.py [OPTION] [SHAPE..]      all shapes by default
+
+    (no option)      `wmod check` on 7 MB, beside node and wasm-validate: MB/s of processor time, instructions per byte
+                     if valgrind is installed, and the peak memory of wmod. MB/s are medians of five runs
+    --growth         `wmod check` on 2, 4 and 8 MB: the time per byte, and its ratio of 8 MB to 2 MB. Times are the
+                     least of fifteen runs, without the start of the program
+    --ratios         each of the five actions on 2 MB: how many times as fast it is as node or a program of wabt
+    --canon, --show  that action: MB/s on 8 MB, the ratio of its time per byte on 8 MB to 2 MB, peak memory, and
+                     bytes of memory per byte of the module
+    --build          `wmod build` on texts that `wmod show` prints of 0.5 and 2 MB, beside wat2wasm. It fails if the
+                     result is not the output of `wmod canon`
+    --assemble       no measurement: whether wat2wasm makes the bytes of `wmod canon` from such texts of 0.1 and 2 MB.
+                     It ends with status 1 if not
+    --program=PATH   uses this built program, and not the one of this checkout
+
+All programs run in turn. A shape with floats is measured with `--profile 3`.
 """
 import json
 import os
@@ -46,14 +51,14 @@ console.log(JSON.stringify({ valid, seconds: times[times.length >> 1] }));
 
 
 def wmod(action, shape, path):
-    """The words of a run of wmod: a shape with floats needs a profile that has them."""
+    """Returns a command line of wmod, with `--profile 3` for a shape with floats."""
     profile = ["--profile", "3"] if shape in make_module.WITH_FLOATS else []
     return [str(PROGRAM), action, *profile, path]
 
 
 def spent(command):
-    """The processor seconds of a run, its peak memory in KiB, and whether it ended well."""
-    # `time` starts it, since a child of Python itself would count Python's memory as its own
+    """Runs a command. Returns its processor seconds, its peak memory in KiB, and whether its status was 0."""
+    # `time` starts the program, because a child of Python would count Python's memory as its own.
     with tempfile.NamedTemporaryFile("r") as out, open(os.devnull, "wb") as nothing:
         before = resource.getrusage(resource.RUSAGE_CHILDREN)
         ended = subprocess.run(
@@ -66,7 +71,7 @@ def spent(command):
 
 
 def medians(commands):
-    """The median seconds of each command, run in turn, and its peak memory."""
+    """Returns the median seconds and the peak memory of each command. The commands run in turn."""
     times = [[] for _ in commands]
     peaks = [0 for _ in commands]
     for _ in range(RUNS):
@@ -81,7 +86,7 @@ def medians(commands):
 
 
 def instructions(command, empty):
-    """How many instructions a run has, the start of the program left out."""
+    """Returns the number of instructions of a run, without those of a run on an empty input."""
 
     def count(words):
         with tempfile.TemporaryDirectory() as folder:
@@ -105,7 +110,7 @@ def speed(size, seconds):
 
 
 def node_seconds(path):
-    """The seconds that V8 takes for a module; none where there is no node, or it refuses the module."""
+    """Returns the seconds that node takes to validate a module; None if node is missing or refuses it."""
     if not shutil.which("node"):
         return None
     words = ["node", "--single-threaded", "-e", NODE, path]
@@ -115,7 +120,10 @@ def node_seconds(path):
 
 
 def ratios_row(shape, folder):
-    """How many times as fast each action is as another program; `refused` where that refuses the module or is not there."""
+    """Returns how many times as fast each action is as another program.
+
+    The cell is `refused` if that program is missing or refuses the module.
+    """
     path, text, shown_by_wabt = (os.path.join(folder, f"{shape}.{kind}") for kind in ("wasm", "wat", "wabt.wat"))
     with open(path, "wb") as file:
         file.write(make_module.make(shape, 2))
@@ -158,7 +166,7 @@ def row(shape, folder, others):
 
 
 def quickest(commands):
-    """The least seconds of each command in fifteen runs, all in turn, and its peak memory."""
+    """Returns the least seconds of each command in fifteen runs, and its peak memory. The commands run in turn."""
     times = [[] for _ in commands]
     peaks = [0 for _ in commands]
     for _ in range(3 * RUNS):
@@ -170,8 +178,11 @@ def quickest(commands):
 
 
 def growth(shape, folder, action, sizes=(2, 8)):
-    """The seconds a byte on modules of so many MB, the start of the program left out; of the last its size, seconds and
-    peak memory. Other programs only ever make a run longer, so the least time tells."""
+    """Measures an action on modules of these sizes in MB.
+
+    Returns the seconds per byte of each without the start of the program, and the size, seconds and peak memory of the
+    last. It takes the least time of all runs, because other programs can only slow a run down.
+    """
     paths = [os.path.join(folder, f"{shape}.{megabytes}.wasm") for megabytes in (0, *sizes)]
     for path, megabytes in zip(paths, (0, *sizes)):
         with open(path, "wb") as file:
@@ -203,7 +214,10 @@ def output(action, shape, path):
 
 
 def shown(shape, folder, megabytes):
-    """The path of the text of a module, after a look that it is built into the canonical binary, and that binary's size."""
+    """Writes the text of a module, and ends the script if `wmod build` does not make the canonical binary of it.
+
+    Returns the path of the text and the size of the canonical binary.
+    """
     module, text = (os.path.join(folder, f"{shape}.{megabytes}.{kind}") for kind in ("wasm", "wat"))
     with open(module, "wb") as file:
         file.write(make_module.make(shape, megabytes))
@@ -216,7 +230,7 @@ def shown(shape, folder, megabytes):
 
 
 def building_row(shape, folder):
-    """Figures of the larger text; its time a byte beside that of the smaller one."""
+    """Returns the figures of the larger text, with the ratio of its time per byte to that of the smaller one."""
     others = [["wat2wasm", "--output=/dev/null"]] if shutil.which("wat2wasm") else []
     empty, _ = shown("custom_sections", folder, 0)
     _, (least,) = medians([wmod("build", shape, empty)])
@@ -234,7 +248,10 @@ def building_row(shape, folder):
 
 
 def assembled(text, binary, wide=False):
-    """Why wat2wasm, without flags, makes no binary of a text; none where it does. Its stack is of the usual size, or wide."""
+    """Runs wat2wasm without flags on a text. Returns why it made no binary, or None if it did.
+
+    With `wide`, its stack has the greatest size that the system allows.
+    """
 
     def widen():
         most = resource.getrlimit(resource.RLIMIT_STACK)[1]
@@ -248,7 +265,7 @@ def assembled(text, binary, wide=False):
 
 
 def difference(mine, other):
-    """How bytes of wat2wasm differ from those of `wmod canon`; none where they are the same."""
+    """Returns how the bytes of wat2wasm differ from those of `wmod canon`, or None if they are equal."""
     if mine == other:
         return None
     same = next((i for i, (a, b) in enumerate(zip(mine, other)) if a != b), min(len(mine), len(other)))
@@ -256,7 +273,7 @@ def difference(mine, other):
 
 
 def assembling(shape, folder, megabytes):
-    """What wat2wasm makes of the text of a module, in words, and whether that is the canonical binary."""
+    """Returns a line on the binary that wat2wasm makes of a module's text, and whether it is the canonical one."""
     module, text, binary = (os.path.join(folder, f"{shape}.{kind}") for kind in ("wasm", "wat", "out"))
     with open(module, "wb") as file:
         file.write(make_module.make(shape, megabytes))
@@ -274,7 +291,7 @@ def assembling(shape, folder, megabytes):
 
 
 def assemble(shapes, folder):
-    """The status: 0 where all binaries are equal."""
+    """Prints a line for each text. Returns 0 if all binaries are equal, else 1."""
     answers = []
     for shape in shapes:
         for megabytes in (0.1, 2):
@@ -297,7 +314,7 @@ def main():
     shapes = words or [f.__name__ for f in make_module.SHAPES]
     if not GIVEN:
         subprocess.run([str(HERE.parent / "wmod"), "--help"], stdout=subprocess.DEVNULL, check=True)
-    texts = [shape for shape in shapes if shape != "custom_sections"]  # they are no part of a text
+    texts = [shape for shape in shapes if shape != "custom_sections"]  # a text has no custom sections
     with tempfile.TemporaryDirectory() as folder:
         if "--assemble" in sys.argv:
             sys.exit(assemble(texts, folder))
@@ -308,7 +325,7 @@ def main():
         if "--ratios" in sys.argv:
             heads = ["Shape", "check to node", "check to wasm-validate", "stats to wasm-opcodecnt"]
             heads += ["canon to wasm2wat and wat2wasm", "show to wasm2wat", "build to wat2wasm"]
-            shallow = [shape for shape in texts if shape != "deep_blocks"]  # programs of wabt end by a signal there
+            shallow = [shape for shape in texts if shape != "deep_blocks"]  # a signal ends programs of wabt on it
             print_table(heads, (ratios_row(shape, folder) for shape in shallow))
             return
         for action in ("canon", "show"):

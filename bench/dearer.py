@@ -1,12 +1,16 @@
 #!/usr/bin/env python3
-"""Counts instructions of `wmod` of two built checkouts on inputs that a fast way may make dearer: `bench/dearer.py OLD NEW [WORD..]`,
-and with `--shapes` as WORD on a megabyte of each shape of make_module.py, by each action.
+"""Finds inputs that a change made slower: compares the instructions of wmod of two built checkouts, by callgrind.
 
-The inputs are those that once got dearer when others got quicker: ops without a fast way, pieces of one byte or two, lists
-of short indices behind a longer one, empty bodies, code that cannot be reached, texts of one kind of token, and texts that
-are refused. Each row is made twice, in another size and order. Printed are the instructions of both by callgrind, without
-those of an input that holds nothing, in millions, and NEW's over OLD's. With words only rows are run whose names hold one of
-them. Both have to answer the same. crates/wm_cli/out/wm_cli of each checkout is run: `rt run` in crates/wm_cli builds it.
+    dearer.py OLD NEW              all rows
+    dearer.py OLD NEW WORD..       only rows whose name contains one of the words
+    dearer.py OLD NEW --shapes     each action on 1 MB of each shape of make_module.py
+
+It runs crates/wm_cli/out/wm_cli of each checkout; `rt run` in crates/wm_cli builds it. For each row it prints the
+instructions of OLD and of NEW in millions, without those of an empty input, and the ratio NEW over OLD. The last column
+has the ratio on a second input of another size and order. The script ends with status 1 if the answers differ.
+
+The rows are inputs that once got slower when others got faster: ops without a fast path, pieces of one byte or two,
+lists of short indices after a longer one, empty bodies, unreachable code, texts of one kind of token, refused texts.
 """
 import pathlib
 import re
@@ -20,12 +24,12 @@ from concurrent.futures import ThreadPoolExecutor
 sys.dont_write_bytecode = True
 from make_module import HEADER, I32, I64, MEMORY, NOTHING, SHAPES, WITH_FLOATS, Numbers, entry, make, module, section, unsigned, vector
 
-# the input of `build` that holds nothing
+# the empty input of `build`
 EMPTY_TEXT = b"(module)"
 
 
 def code(runs, one, memory=b""):
-    """Functions that repeat this: one long one, or many of a few."""
+    """Returns a maker of functions that repeat this code: one long function, or many short ones."""
 
     def made(numbers):
         if numbers.state == 1:
@@ -36,12 +40,12 @@ def code(runs, one, memory=b""):
 
 
 def bodies(one):
-    """Functions with this body, of which there are many."""
+    """Returns a maker of many functions with this body."""
     return lambda numbers: module([NOTHING], [entry([], one)] * (20_000 if numbers.state == 1 else 7_000))
 
 
 def indices(count, long_ones):
-    """Numbers below 100 in one byte each, but that those at some places have two."""
+    """Returns a maker of numbers below 100, of one byte each, or of two at the indices that `long_ones` picks."""
     return lambda numbers, n=count, wide=long_ones: [unsigned(numbers.below(100), 2 if wide(i) else 1) for i in range(n)]
 
 
@@ -58,7 +62,7 @@ def each(_):
 
 
 def elements(count, wide, segments_of_it=0):
-    """Element segments of so many functions each: so many, or three and two."""
+    """Returns a maker of element segments of `count` functions each: `segments_of_it` of them, or three or two."""
 
     def made(numbers):
         functions = section(3, vector([b"\x00"] * 100)) + section(4, vector([b"\x70\x00\x64"]))
@@ -70,7 +74,7 @@ def elements(count, wide, segments_of_it=0):
 
 
 def labels(count, wide):
-    """Tables of so many labels each, behind 100 open blocks."""
+    """Returns a maker of br_tables of `count` labels each, inside 100 open blocks."""
 
     def made(numbers):
         tables = b""
@@ -88,7 +92,7 @@ def customs(numbers):
 
 
 def spread(blank):
-    """A text of fields that are parted by many of these."""
+    """Returns a maker of texts of fields, with many of these bytes between them."""
 
     def made(numbers):
         parts = (blank * (100 + numbers.below(4_000)) + b"(type (func))" for _ in range(60 if numbers.state == 1 else 41))
@@ -124,7 +128,7 @@ CHECK, CANON, BUILD = ["check"], ["canon"], ["build"]
 UNDER_2, UNDER_3, UNDER_4 = (["check", "--profile", it] for it in "234")
 LOADED = ["canon", "--profile", "4"]
 LOCAL = [(1, I32), (1, I64)]
-# the words of an action, the input, and the length of its pieces (0: as wmod reads a file)
+# the arguments, the maker of the input, and the length of its pieces (0: as wmod reads a file)
 ROWS = {
     "f32.reinterpret_i32 and back": (UNDER_3, code(LOCAL, b"\x20\x00\xbe\xbc\x21\x00"), 0),
     "f64.convert_i32_s": (UNDER_3, code(LOCAL, b"\x41\x01\xb7\x1a"), 0),
@@ -167,7 +171,7 @@ ROWS = {
 
 
 def fed(program, words, given, piece):
-    """What callgrind counts, and how the program ended and what it wrote."""
+    """Runs the program below callgrind. Returns the number of instructions, and the status and outputs."""
     with tempfile.TemporaryFile() as file:
         file.write(given)
         file.seek(0)
@@ -183,18 +187,18 @@ def fed(program, words, given, piece):
     counted = re.search(rb"Collected : (\d+)", told)
     if not counted:
         sys.exit(told.decode())
-    # what valgrind itself says has its number before it
+    # Lines of valgrind itself begin with ==NUMBER==.
     return int(counted[1]), (ran.returncode, written, re.sub(rb"(?m)^==\d+==.*\n", b"", told))
 
 
 def send(here, given, piece):
-    """Sends pieces as packets, each of which is one read."""
+    """Sends each piece as a packet, so that the program gets it in one read."""
     with here:
         try:
             for at in range(0, len(given), piece) if piece else ():
                 here.sendall(given[at : at + piece])
         except ConnectionError:
-            # (what is refused is not read to its end)
+            # wmod does not read a refused input to its end.
             pass
 
 
@@ -212,7 +216,7 @@ def counted(programs, name, seed):
 
 
 def shapes():
-    """Each shape with its profile and a module of a megabyte; and two of ops that not every profile has."""
+    """Yields each shape with its profile and a module of 1 MB, and two modules of ops that only some profiles have."""
     for shape in (it.__name__ for it in SHAPES):
         yield shape, "3" if shape in WITH_FLOATS else "1", make(shape, 1)
     yield "sign extensions", "2", module([NOTHING], [entry(LOCAL, b"\x20\x00\xc0\x21\x00\x20\x01\xc4\x21\x01" * 100_000)])
@@ -220,7 +224,7 @@ def shapes():
 
 
 def ratio(programs, words, given, nothing):
-    """NEW's instructions over OLD's, without those of an input that holds nothing."""
+    """Returns the ratio of the instructions of NEW to those of OLD, without those of an empty input."""
     (old, told), (new, tells) = (fed(it, words, given, 0) for it in programs)
     if told != tells:
         sys.exit(f"{words}: the answers differ")

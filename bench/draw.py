@@ -1,8 +1,8 @@
 #!/usr/bin/env python3
-"""Draws two tables of docs/PERFORMANCE.md with gnuplot: `draw.py` writes docs/speed.svg and docs/growth.svg.
+"""Draws docs/speed.svg and docs/growth.svg with gnuplot, from two tables of docs/PERFORMANCE.md: `draw.py`.
 
-The first is the speed of `wmod check` beside node and wasm-validate by shape, as `compare.py` prints it; the second the
-time a byte by size, as `compare.py --growth` prints it. The page is the one place where these figures stand.
+The first is the speed of `wmod check` beside node and wasm-validate by shape, as `compare.py` prints it. The second is
+the time per byte by size, as `compare.py --growth` prints it. The script fails if the page lacks one of the tables.
 """
 import pathlib
 import subprocess
@@ -40,7 +40,7 @@ plot for [i=1:{rows}] $table matrix every 1:::i-1::i-1 using (2 ** ($1 + 1)):3 w
 
 
 def table(page, heads):
-    """The rows of the first table of the page whose heads begin so."""
+    """Returns the rows of the first table of the page whose header begins with these cells."""
     lines = iter(page.split("\n"))
     begins = "| " + " | ".join(heads) + " |"
     if not any(line.startswith(begins) for line in lines):
@@ -60,7 +60,7 @@ def draw(script, rows):
 
 
 def number(cell):
-    """A cell as gnuplot reads it: what is past the scale stands at its end, and what was refused is left out."""
+    """Returns a cell as gnuplot reads it. `> N` becomes N, and `refused` becomes a missing value."""
     return "?" if cell == "refused" else cell.removeprefix("> ")
 
 

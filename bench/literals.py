@@ -1,13 +1,19 @@
 #!/usr/bin/env python3
-"""Compares `wmod build` with exact arithmetic on literals of floats: `literals.py [COUNT [SEED]] [--program=PATH]`.
+"""Compares `wmod build` with exact arithmetic on float literals.
 
-It makes 10,000 literals, the same ones for the same seed, half of them of f32 and half of f64: decimal and hexadecimal,
-exact values of floats, points halfway between two floats and points a little beside them, some with 800 digits and more,
-subnormals, the largest finite floats and what lies above, infinities, NaNs, and literals with one character changed. What
-each one means is computed in fractions: the nearest float, of two the one whose last bit is 0, and nothing where that is
-no finite one (6.3.2, 4.3.3). This is held against Python's own readers of floats first, wherever these are exact. Then
-wmod has to build the module with just these bits, or to refuse the text; and so has wat2wasm of wabt where it is
-installed. Printed is each difference, and how many there are of a kind. The status is 1 where wmod or Python differ.
+    literals.py [COUNT [SEED]] [--program=PATH]      10,000 literals and seed 1 by default
+
+It prints each difference, and the number of differences of each kind. It ends with status 1 if wmod or Python differs.
+Equal seeds give equal literals.
+
+About half of the literals are of f32 and half of f64, decimal or hexadecimal: floats, points halfway between two
+floats or close to one, literals of 800 digits and more, subnormals, the largest finite floats and numbers above them,
+infinities, NaNs, and literals with one character changed.
+
+The script computes the meaning of each literal with fractions: the nearest float, with ties to even, and none if that
+is not finite (Core spec 6.3.2, 4.3.3). First it compares the meaning with Python's own float parsers, if they are
+exact there. Then wmod must build the module with these bits, or refuse the text. wat2wasm is compared too if it is
+installed.
 """
 import collections
 import pathlib
@@ -21,7 +27,7 @@ from fractions import Fraction
 from make_module import HEADER, NOTHING, Numbers, entry, section, vector
 
 PROGRAM = pathlib.Path(__file__).resolve().parent.parent / "crates/wm_cli/out/wm_cli"
-# of each width the bits of a fraction, and the exponent of the least float above 0
+# for each width: the bits of a fraction, and the exponent of the least float above 0
 FORMATS = {32: (23, -149), 64: (52, -1074)}
 D, H = "[0-9](?:_?[0-9])*", "[0-9a-fA-F](?:_?[0-9a-fA-F])*"
 DECIMAL = re.compile(rf"[+-]?({D})(?:\.({D})?)?(?:[eE]([+-]?{D}))?")
@@ -30,30 +36,30 @@ INFINITY = re.compile("[+-]?inf")
 NAN = re.compile(rf"[+-]?nan(?::0x({H}))?")
 
 
-# What a literal means.
+# The meaning of a literal.
 
 
 def number(literal):
-    """The value without its sign; none where it writes no finite number."""
+    """Returns the value without its sign, or None if the literal writes no finite number."""
     for pattern, base, radix in [(DECIMAL, 10, 10), (HEXADECIMAL, 16, 2)]:
         parts = pattern.fullmatch(literal)
         if parts:
             whole, fraction, exponent = (part.replace("_", "") if part else "" for part in parts.groups())
             value = Fraction(int(whole + fraction, base), base ** len(fraction))
-            # beyond this a literal of some thousand digits is 0 or too large in any case
+            # With a larger exponent, a literal of a few thousand digits is 0 or too large in any case.
             power = max(-20_000, min(20_000, int(exponent or "0")))
             return value * Fraction(radix) ** power
     return None
 
 
 def rounded(value, width):
-    """The bits of the nearest float; none where no finite float is."""
+    """Returns the bits of the nearest float, or None if that is not finite."""
     digits, least = FORMATS[width]
     exponent = value.numerator.bit_length() - value.denominator.bit_length()
     if value < Fraction(2) ** exponent:
         exponent -= 1
     unit = max(exponent - digits, least) if value else least
-    # `round` of a fraction goes to the even number where two are as near
+    # `round` of a fraction rounds ties to even.
     bits = ((unit - least) << digits) + round(value / Fraction(2) ** unit)
     return bits if bits < infinity(width) else None
 
@@ -64,7 +70,7 @@ def infinity(width):
 
 
 def meaning(literal, width):
-    """The bits; none where the literal is not one of this width."""
+    """Returns the bits, or None if it is no literal of this width."""
     digits, bits = FORMATS[width][0], None
     given, nan = number(literal), NAN.fullmatch(literal)
     if given is not None:
@@ -78,7 +84,7 @@ def meaning(literal, width):
 
 
 def by_python(literal, width):
-    """The bits that Python reads, in a list that is empty where it need not be exact."""
+    """Returns a list of the bits that Python reads, empty if they may be inexact."""
     given = number(literal)
     if given is None:
         return []
@@ -88,7 +94,7 @@ def by_python(literal, width):
         if width == 64:
             bits = int.from_bytes(struct.pack("<d", read), "little")
             return [bits if bits & infinity(64) != infinity(64) else None]
-        # a float of 64 bits is rounded once more
+        # Python rounds to 64 bits first, so the second rounding may be wrong.
         return [int.from_bytes(struct.pack("<f", read), "little")] if Fraction(abs(read)) == given else []
     except OverflowError:
         return [None]
@@ -113,7 +119,7 @@ FIXED += "0x0p99999999999999999999 0.0e-99999999999999999999 4294967296 18446744
 
 
 def a_float(numbers, width):
-    """The bits of a finite one, rather often one near which something changes."""
+    """Returns the bits of a finite float, often of one near a boundary such as 0 or a power of two."""
     digits = FORMATS[width][0]
     few = numbers.below(3)
     kinds = [numbers.bits(width - 1), numbers.bits(numbers.below(digits) + 1), few, infinity(width) - 1 - few]
@@ -122,7 +128,7 @@ def a_float(numbers, width):
 
 
 def spelled(numbers, n, exponent, hexadecimal):
-    """n * 2^exponent as hexadecimal digits, or n * 10^exponent as decimal ones, with the point somewhere and an exponent."""
+    """Returns a literal of n * 2^exponent in hexadecimal or of n * 10^exponent in decimal, with a random point."""
     digits = "0" * numbers.below(3) + (f"{n:x}" if hexadecimal else str(n))
     step = 4 if hexadecimal else 1
     if exponent <= 0 and exponent % step == 0 and numbers.below(2):  # with the exponent 0
@@ -140,7 +146,7 @@ def spelled(numbers, n, exponent, hexadecimal):
 
 
 def near_a_float(numbers, width):
-    """A float or the point halfway to the next one, or what lies beside it by so little that many digits tell."""
+    """Returns a literal of a float or of the point halfway to the next one, or of a number very close to it."""
     digits, least = FORMATS[width]
     power, fraction = divmod(a_float(numbers, width), 1 << digits)
     n, exponent = 2 * (fraction + ((1 << digits) if power else 0)) + numbers.below(2), max(power, 1) - 1 + least - 1
@@ -162,7 +168,7 @@ def any_number(numbers, width):
 
 
 def with_underscores(numbers, literal):
-    """Some between two digits."""
+    """Returns the literal with underscores between some of its digits."""
     return re.sub(r"(?<=[0-9])(?=[0-9])", lambda _: numbers.one_of(["_", "", "", ""]), literal)
 
 
@@ -173,7 +179,7 @@ def changed(numbers, literal):
 
 
 def literals(count, seed):
-    """Pairs of a width and a literal."""
+    """Returns pairs of a width and a literal."""
     numbers = Chooser(seed)
     made = [(width, sign + literal) for literal in FIXED.split() for sign in ["", "-", "+"] for width in FORMATS]
     while len(made) < count:
@@ -184,7 +190,7 @@ def literals(count, seed):
     return made[:count]
 
 
-# What programs make of it.
+# The answers of the programs.
 
 
 def text_of(width, literal):
@@ -197,7 +203,7 @@ def binary_of(width, bits):
 
 
 def difference(words, width, literal, bits):
-    """What a program does otherwise; none where it does what it should."""
+    """Returns how a program differs from the meaning `bits`, or None if it agrees."""
     done = subprocess.run(words, input=text_of(width, literal).encode(), stdout=subprocess.PIPE, stderr=subprocess.PIPE, check=False)
     if done.returncode not in (0, 1):
         return f"ends with {done.returncode}"

@@ -1,7 +1,10 @@
 #!/usr/bin/env python3
-"""Writes a valid module of a shape and of about so many megabytes to standard output: `make_module.py clang 8 > big.wasm`.
+"""Writes a valid module of a shape and of about the given megabytes to standard output.
 
-Every run writes the same bytes for the same words. Without a shape it prints their names.
+    make_module.py SHAPE [MEGABYTES] > big.wasm      8 MB by default
+    make_module.py                                   prints the names of the shapes
+
+Equal arguments give equal bytes.
 """
 import struct
 import sys
@@ -10,7 +13,7 @@ I32, I64, F32, F64 = 0x7F, 0x7E, 0x7D, 0x7C
 
 
 def unsigned(n, width=0):
-    """The shortest spelling of n, or one of so many bytes."""
+    """Returns n as unsigned LEB128, in at least `width` bytes."""
     out = bytearray()
     while True:
         byte = n & 0x7F
@@ -57,13 +60,13 @@ MEMORY = section(5, b"\x01\x00\x01")
 
 
 def module(types, entries, memory=b""):
-    """One function of type 0 for each code entry."""
+    """Returns a module with one function of type 0 for each code entry."""
     declared = section(3, unsigned(len(entries)) + b"\x00" * len(entries))
     return HEADER + section(1, vector(types)) + declared + memory + section(10, vector(entries))
 
 
 class Numbers:
-    """A linear congruential generator, so that the bytes are the same everywhere."""
+    """A linear congruential generator, so that every machine makes the same bytes."""
 
     def __init__(self, seed):
         self.state = seed
@@ -77,7 +80,7 @@ class Numbers:
 
 
 def statement(numbers, functions):
-    """Some instructions that leave the stack as it was; locals 0 to 3 are i32, 4 and 5 are i64."""
+    """Returns instructions that leave the stack unchanged. Locals 0 to 3 are i32, 4 and 5 are i64."""
     kind = numbers.below(6)
     a, b = unsigned(numbers.below(4)), unsigned(numbers.below(4))
     if kind == 0:  # local.get a, i32.const n, i32.add, local.set b
@@ -96,10 +99,10 @@ def statement(numbers, functions):
 
 
 def float_statement(numbers, functions):
-    """The same, most of it on floats; locals 0 and 3 to 5 are f64, 1 and 2 are i32, 6 and 7 are f32."""
+    """Returns the same, mostly on floats. Locals 0 and 3 to 5 are f64, 1 and 2 are i32, 6 and 7 are f32."""
     kind = numbers.below(12)
     a, b, c = (bytes([0x20, numbers.one_of([0, 3, 4, 5])]) for _ in range(3))  # local.get of an f64
-    i, s = bytes([0x20, numbers.one_of([1, 2])]), bytes([0x20, numbers.one_of([6, 7])])  # that of an i32, and of an f32
+    i, s = bytes([0x20, numbers.one_of([1, 2])]), bytes([0x20, numbers.one_of([6, 7])])  # of an i32, and of an f32
     offset = unsigned(8 * numbers.below(512))
     if kind < 2:  # a + b * c, or with - or / for +
         return a + b + c + b"\xa2" + numbers.one_of([b"\xa0", b"\xa1", b"\xa3"]) + b"\x21" + a[1:]
@@ -145,7 +148,7 @@ def clang(size):
 
 
 def floats(size):
-    """Functions as long as those of clang, most of whose locals, loads, stores, constants and arithmetic are of floats."""
+    """Functions as long as those of `clang`, mostly with locals, loads, stores, constants and arithmetic of floats."""
     numbers = Numbers(4)
     functions = max(1, size // 262)
     codes = (statements(numbers, functions, 200 + numbers.below(100), float_statement) for _ in range(functions))
@@ -210,7 +213,7 @@ def long_numbers(size):
 
 
 def many_runs(size):
-    """Functions with a thousand runs of one local each, and a get and a drop for each of them."""
+    """Functions with a thousand runs of one local each, and a local.get and a drop for each local."""
     runs = [(1, I32 if i % 2 else I64) for i in range(1000)]
     code = b"".join(b"\x20" + unsigned(i) + b"\x1a" for i in range(1000))
     one = entry(runs, code)

@@ -1,12 +1,16 @@
 #!/usr/bin/env python3
-"""Compares `wmod check --profile 3` with node on small modules with floats: `modules.py [COUNT [SEED]] [--program=PATH]`.
+"""Compares `wmod check --profile 3` with node on small modules with floats.
 
-It makes 10,000 modules, the same ones for the same seed. A third of them is valid: each instruction is chosen by the types
-of the operands that are there, in unreachable code too. Those of another third have one instruction dropped, doubled, put
-behind the next one or replaced, and those of the last one have one byte changed, or end early. Node accepts more than 1.0
-has, and refuses a little that 1.0 has. So each difference is printed with its class, and then how many modules each class
-has. What no class explains is printed whole, in capital letters, and so is a module that should be valid and is refused by
-both; the status is 1 then.
+    modules.py [COUNT [SEED]] [--program=PATH]      10,000 modules and seed 1 by default
+
+Equal seeds give equal modules. One third is valid: each instruction fits the types of the operands on the stack, also
+in unreachable code. In another third one instruction is dropped, doubled, swapped with the next one or replaced. In the
+last third one byte is changed, or the end is cut off.
+
+Node accepts features after 1.0, and refuses a few modules of 1.0. The script prints each difference with the class that
+explains it, and the number of modules of each class. It ends with status 1 if no class explains a difference, or if
+both programs refuse a valid module, or if wmod gives no answer. The names of these classes are in capital letters, and
+their modules are printed in hexadecimal.
 """
 import collections
 import json
@@ -36,7 +40,7 @@ console.log(JSON.stringify(told));
 
 # Types are letters: i and j are i32 and i64, f and d are f32 and f64.
 TYPES = {"i": b"\x7f", "j": b"\x7e", "f": b"\x7d", "d": b"\x7c"}
-# Numeric instructions: the first byte, how many there are, and what each takes and gives.
+# Numeric instructions: the first opcode, the number of opcodes, and the types that each pops and pushes.
 RUNS = "45 1 i i, 46 10 ii i, 50 1 j i, 51 10 jj i, 5b 6 ff i, 61 6 dd i, 67 3 i i, 6a 15 ii i, 79 3 j j, 7c 15 jj j, 8b 7 f f, "
 RUNS += "92 7 ff f, 99 7 d d, a0 7 dd d, a7 1 j i, a8 2 f i, aa 2 d i, ac 2 i j, ae 2 f j, b0 2 d j, b2 2 i f, b4 2 j f, b6 1 d f, "
 RUNS += "b7 2 i d, b9 2 j d, bb 1 f d, bc 1 f i, bd 1 d j, be 1 i f, bf 1 j d"
@@ -45,7 +49,7 @@ NUMERICS = [
     for first, count, takes, gives in map(str.split, RUNS.split(", "))
     for i in range(int(count))
 ]
-# Loads from byte 28 on, and stores from 36 on: the type of the value, and the greatest alignment.
+# Loads from opcode 28 on, and stores from 36 on: the type of the value, and the greatest alignment.
 LOADS = "i2 j3 f2 d3 i0 i0 i1 i1 j0 j0 j1 j1 j2 j2".split()
 STORES = "i2 j3 f2 d3 i0 i1 j0 j1 j2".split()
 
@@ -70,7 +74,7 @@ class Frame:
 
 
 class Body:
-    """A typed body in the making: its instructions, and beside them the types of its operands and its open blocks."""
+    """A body under construction: its instructions, the types of its operands, and its open blocks."""
 
     def __init__(self, numbers, around, type_, locals_):
         self.numbers, self.around, self.locals = numbers, around, type_[0] + locals_
@@ -84,12 +88,12 @@ class Body:
         return self.stack[self.frames[-1].floor :]
 
     def there(self, types):
-        """Whether operands of these types are on top; in unreachable code those below all others are of any type."""
+        """Whether operands of these types are on top. In unreachable code, missing operands have any type."""
         have = self.above()[-len(types) :] if types else []
         return (len(have) == len(types) or self.frames[-1].dead) and have == list(types[len(types) - len(have) :])
 
     def put(self, code, takes="", gives=""):
-        """An instruction, after what it needs and is not there."""
+        """Adds an instruction, after instructions that push the operands that it lacks."""
         found = next(n for n in range(len(takes), -1, -1) if self.there(takes[:n]))
         for t in takes[found:]:
             places = [b"\x20" + unsigned(x) for x, ty in enumerate(self.locals) if ty == t]
@@ -101,13 +105,13 @@ class Body:
         self.stack += gives
 
     def leave(self, code, takes=""):
-        """An instruction that nothing is reached behind."""
+        """Adds an instruction after which code is unreachable."""
         self.put(code, takes)
         del self.stack[self.frames[-1].floor :]
         self.frames[-1].dead = True
 
     def finish(self, code):
-        """An `else` or `end`: the block's result is there alone."""
+        """Adds an `else` or `end`, with only the block's result on the stack."""
         frame = self.frames[-1]
         while self.above() not in ([], list(frame.result)):
             self.put(b"\x1a", self.stack[-1])
@@ -202,7 +206,7 @@ STEPS += [Body.call, Body.call_indirect, Body.stop]
 
 
 def valid(numbers):
-    """The sections before the code, of each code entry its runs of locals and its instructions, and the data section."""
+    """Returns the sections before the code, the locals and instructions of each code entry, and the data section."""
     types = [(numbers.letters(3), numbers.letters(1)) for _ in range(1 + numbers.below(4))]
     imported = [(numbers.one_of("ijfd"), numbers.below(2)) for _ in range(numbers.below(3))]
     own = [(numbers.one_of("ijfd"), numbers.below(2)) for _ in range(numbers.below(4))]
@@ -257,7 +261,7 @@ def changed_byte(numbers, whole):
 
 
 def modules(count, seed):
-    """Pairs of what is to be said of a module, and its bytes."""
+    """Yields modules, each with whether it is certainly valid."""
     numbers = Chooser(seed)
     for n in range(count):
         before, bodies, after = valid(numbers)
@@ -267,7 +271,8 @@ def modules(count, seed):
         yield n % 3 == 0, changed_byte(numbers, whole) if n % 3 == 2 else whole
 
 
-# Why node accepts what wmod refuses. The words are the section's id, the refusal and the last bytes up to its place.
+# Why node accepts a module that wmod refuses. A pattern matches the section's id, the refusal and the last bytes up to
+# its offset.
 STRICTER = {
     "sign extension": r"BadOpcode .*c[0-4]$",
     "non-trapping conversion, or bulk memory": r"BadOpcode .*fc$",
@@ -281,7 +286,7 @@ STRICTER = {
     "index of a call_indirect's table": r"^10 BadByte .*11 \w\w \w\w$",
     "labels of a br_table in unreachable code": r"^10 Type .*br_table$",
 }
-# Why node refuses what wmod accepts, by what node says.
+# Why node refuses a module that wmod accepts, by the message of node.
 LAXER = {
     "offset by an own constant global": "non-imported globals cannot be used in constant expressions",
     "limit of node": "larger than implementation limit|exceeds internal limit|local count too large",
@@ -289,7 +294,7 @@ LAXER = {
 
 
 def section_of(whole, at):
-    """The id of the section that a byte stands in, where all sizes up to there are right."""
+    """Returns the id of the section that contains the byte `at`, if all sizes before it are right."""
     start = end = 8
     while end <= at:
         start, end, shift = end, end + 1, 0
@@ -302,7 +307,7 @@ def section_of(whole, at):
 
 
 def refusal(whole, line):
-    """The words that a class is found by."""
+    """Returns the text that the patterns of STRICTER match."""
     place, word = re.fullmatch(r"refused at (\d+): (\w+)", line).groups()
     front = whole[: int(place)]
     table = any(front[-n - 3 : -n - 1] == bytes([0x0E, n]) for n in range(16))
@@ -314,14 +319,14 @@ def found(classes, words):
 
 
 def checked(program, whole):
-    """What wmod says: nothing where it accepts."""
+    """Returns the output of wmod, or "" if it accepts."""
     done = subprocess.run([program, "check", "--profile", "3", "-"], input=whole, stdout=subprocess.PIPE, check=False)
     line = done.stdout.decode("utf8", "replace").strip()
     return "" if done.returncode == 0 else line or f"status {done.returncode}"
 
 
 def judged(right, whole, own, other):
-    """The class of a module; what is wrong stands in capital letters."""
+    """Returns the class of a module, in capital letters if it is an error."""
     if own and not re.fullmatch(r"refused at \d+: \w+", own):
         return "NO ANSWER"
     if own and other:

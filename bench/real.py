@@ -1,20 +1,25 @@
 #!/usr/bin/env python3
-"""Holds wmod against node on modules with floats that compilers made: `real.py [PROGRAM]`, or `real.py --make FOLDER`.
+"""Compares wmod with node on modules with floats that compilers made.
 
-Each source is compiled unoptimised, for speed and for size. There are three of C without a library, for clang. One of Rust
-has no std, for the first rustc that has a target for it, and one has std, for Debian's rustc. Of each module node has to
-find valid what `wmod check --profile 3` does, and so what `wmod canon` writes. And `wmod build` has to make the same bytes
-of the text that `wmod show` prints. The status is 1 where one differs. What wasm-validate finds to be beyond 1.0 is left
-out, and its line says so. `--make` writes the modules alone. By hand, of a file of your own:
+    real.py [PROGRAM]        the program of this checkout by default
+    real.py --make FOLDER    only writes the modules
+
+It ends with status 1 if a module fails one of these tests: `wmod check --profile 3` and node accept it, node accepts
+the output of `wmod canon`, and `wmod build` makes the same bytes from the output of `wmod show`. A module that
+wasm-validate finds to be beyond 1.0 is left out, and its line says so.
+
+There are three sources in C without a library, for clang. One in Rust has no std, for the first rustc that has a
+target for it. One in Rust has std, for Debian's rustc. Each is compiled without optimization, for speed and for size.
+To compile a file of your own:
 
     clang --target=wasm32 -mcpu=mvp -O2 -nostdlib -Wl,--no-entry -Wl,--export-all -o a.wasm a.c
     rustc --target wasm32v1-none --edition 2021 -O --crate-type cdylib -o a.wasm a.rs
     /usr/bin/rustc --target wasm32-unknown-unknown -C target-cpu=mvp --edition 2021 -O --crate-type cdylib -o a.wasm a.rs
 
-Without `-mcpu=mvp` some versions of clang go beyond 1.0. It links by `wasm-ld`, which is in Debian's package `lld`; what
-`-c` makes is an object file and no module to run. The target wasm32v1-none comes by `rustup target add wasm32v1-none`, and
-has no std: a.rs then begins with `#![no_std]`, and has a panic handler. The other target is in Debian's packages `rustc`
-and `libstd-rust-dev-wasm32`. In version 1.63 its std is within 1.0, in later ones it may not be.
+Without `-mcpu=mvp`, some versions of clang go beyond 1.0. clang links with `wasm-ld` of Debian's package `lld`. With
+`-c` it writes an object file, which is no module to run. Add the target with `rustup target add wasm32v1-none`. It has
+no std, so a.rs must begin with `#![no_std]` and have a panic handler. The other target is in Debian's packages `rustc`
+and `libstd-rust-dev-wasm32`. In version 1.63 its std is within 1.0; in later ones it may not be.
 """
 import pathlib
 import shutil
@@ -389,7 +394,7 @@ pub extern "C" fn summarize(text: &mut [u8; 4096], length: usize) -> usize {
 
 
 def has_target(words):
-    """Whether a rustc is there, and has its target."""
+    """Whether a rustc is installed and has its target."""
     if not shutil.which(words[0]):
         return False
     told = subprocess.run([*words, "--print", "sysroot"], capture_output=True, text=True, check=False)
@@ -397,7 +402,7 @@ def has_target(words):
 
 
 def jobs():
-    """Of each source the command but for the level, the file's name, and its text."""
+    """Yields the command without the level, the file's name and the text of each source."""
     there = [[*words, *RUST] for words in TARGETS if has_target(words)]
     with_std = [words for words in there if "wasm32v1-none" not in words]
     yield from ((CLANG, name, text) for name, text in C.items())
@@ -406,7 +411,7 @@ def jobs():
 
 
 def compiled(folder):
-    """The paths of the modules."""
+    """Compiles the sources. Yields the paths of the modules."""
     for words, name, text in jobs():
         source = folder / name
         source.write_text(text, encoding="utf8")
@@ -417,24 +422,24 @@ def compiled(folder):
 
 
 def output(program, action, path):
-    """What an action writes; nothing where it refuses."""
+    """Returns the output of an action, or None if it fails."""
     done = subprocess.run([program, action, "--profile", "3", str(path)], stdout=subprocess.PIPE, check=False)
     return done.stdout if done.returncode == 0 else None
 
 
 def accepts(path):
-    """Whether node finds it valid."""
+    """Whether node accepts a module."""
     return subprocess.run(["node", "-e", NODE, str(path)], check=False).returncode == 0
 
 
 def is_later(path):
-    """Whether wasm-validate is there, and finds a module valid by later features alone."""
+    """Whether wasm-validate is installed, and accepts a module only with later features."""
     words = [FIRST[:1], FIRST] if shutil.which(FIRST[0]) else []
     return [subprocess.run([*w, str(path)], capture_output=True, check=False).returncode for w in words] == [0, 1]
 
 
 def fault(program, module):
-    """What is wrong with what wmod makes of a module; none where all is right."""
+    """Returns the first test that a module fails, or None."""
     if not accepts(module):
         return "node refuses it"
     if output(program, "check", module) is None:

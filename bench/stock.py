@@ -1,17 +1,28 @@
 #!/usr/bin/env python3
-"""Makes the stock of modules for the benchmark: `stock.py 64 FOLDER > stock.bin`, and `stock.py 4 > small.bin` for the
-program's run in the gate. The number says how many small modules it has. Behind those of small.bin stand the numbers 1, 9328, 0,
-0 and 0 and what `make_module.py clang 0.0095` writes, so that it has a large one.
+"""Makes the modules of the benchmark.
 
-FOLDER has the large modules as NAME-PROFILE.wasm. The stock that is here was made by clang 14 for wasm32-wasi with
--mcpu=mvp of Debian 12's sources: database-3.wasm of SQLite 3.40.1 (public domain; -Os, its own file system and some parts
-left out), interpreter-3.wasm of Lua 5.4.4 (MIT; -O2) and compression-1.wasm of zlib 1.2.13 (zlib's licence; -O0), the
-first two with parts of wasi-libc (MIT). The small ones are made here, of small.c.
+    stock.py 64 FOLDER > stock.bin      64 small modules, after the modules of FOLDER
+    stock.py 4 > small.bin              4 small modules, for the run of the program in CI
 
-A module is written behind what crates/wm_bench/src/stock.rt wants to know of it, in numbers of four bytes: the profile,
-the size, how many entries, constants and letters there are; of each entry, by the types of their functions, its place in
-the code section, where it begins and ends, and where the entries of its type end in this list; the places of constants
-of one byte that are not negative; the places of the letters of exported names but the first.
+It compiles the small modules from small.c with clang. FOLDER has the large modules, as NAME-PROFILE.wasm. After the
+modules of small.bin come the numbers 1, 9328, 0, 0 and 0 and the output of `make_module.py clang 0.0095`, so that it
+has a large one too.
+
+The large modules of stock.bin were made by clang 14 for wasm32-wasi with -mcpu=mvp, from the sources of Debian 12:
+
+- database-3.wasm: SQLite 3.40.1 (public domain), with -Os, its own file system and some parts left out
+- interpreter-3.wasm: Lua 5.4.4 (MIT), with -O2
+- compression-1.wasm: zlib 1.2.13 (zlib's licence), with -O0
+
+The first two have parts of wasi-libc (MIT).
+
+Before each module are the numbers that crates/wm_bench/src/stock.rt reads, of four bytes each:
+
+- the profile, the size of the module, and how many entries, constants and letters follow
+- for each code entry, ordered by the type of its function: its index in the code section, the offsets of its start and
+  end, and the index in this list at which the entries of its type end
+- the offsets of constants of one byte that are not negative
+- the offsets of the letters of exported names, except each first letter
 """
 import pathlib
 import random
@@ -23,7 +34,7 @@ import tempfile
 
 HERE = pathlib.Path(__file__).resolve().parent
 CLANG = "clang --target=wasm32 -mcpu=mvp -nostdlib -fno-builtin -Wl,--no-entry -Wl,--strip-all -Wl,--allow-undefined".split()
-# immediates by opcode: how many numbers follow
+# the opcodes with one number as immediate
 ONE = {0x02, 0x03, 0x04, 0x0c, 0x0d, 0x10, 0x20, 0x21, 0x22, 0x23, 0x24, 0x3f, 0x40, 0x41, 0x42}
 
 
@@ -46,7 +57,7 @@ class Reader:
 
 
 def constants_of(data, at, end):
-    """The places of constants of one byte in the instructions between two places."""
+    """Yields the offsets of non-negative one-byte constants in the instructions between two offsets."""
     it = Reader(data, at)
     while it.at < end:
         op = it.byte()
@@ -87,7 +98,7 @@ def template(data, profile, with_letters):
                 entries.append((kinds[place], place, start, stop))
                 it.at = stop
         it.at = end
-    # of a large module, so many that the lists stay short
+    # A large module has only a sample of its constants, so that the list stays short.
     constants = constants[:: max(1, len(constants) // 2000)]
     entries.sort()
     ends = [sum(other[0] <= entry[0] for other in entries) for entry in entries]

@@ -1,10 +1,12 @@
 #!/usr/bin/env python3
-"""The two tables that follow from the names of instructions: `BY_NAME` of wm_syntax, the bytes in the order of their names, and
-`GUESSES` of wm_bodies, where each byte stands at the place that `long_guess` gives its name. Both are made from `name_at` of
-op_names.rt. Status 1 where one of them stands otherwise. That `BY_NAME` is in order is proved, too; a wrong guess only costs time.
+"""Checks or writes the two tables that follow from the names of instructions.
 
-    bench/tables.py            says which is not as it should be
-    bench/tables.py --write    writes both; `rt fmt` in the two crates then lays them out
+    bench/tables.py            names the tables that are wrong; status 1 if there are any
+    bench/tables.py --write    writes the tables that are wrong; run `rt fmt` in the two crates after it
+
+Both follow from `name_at` of op_names.rt. `BY_NAME` of wm_syntax has the opcodes in the order of their names; a proof
+also covers that order. `GUESSES` of wm_bodies has each opcode at the index that `long_guess` gives its name; a wrong
+guess only costs time.
 """
 import pathlib
 import re
@@ -13,12 +15,12 @@ import sys
 CRATES = pathlib.Path(__file__).resolve().parent.parent / "crates"
 NAMES = CRATES / "wm_syntax/src/instructions/op_names.rt"
 GUESSED = CRATES / "wm_bodies/src/op_keywords.rt"
-# of two names with one place this one is guessed
+# the name that is guessed if two names have one index
 PREFERRED = b"memory.size"
 
 
 def names():
-    """The bytes that have a name, each with it."""
+    """Returns the names of instructions, by opcode."""
     rows = re.findall(r'0x([0-9A-F]{2}) => b"([^"]+)",', NAMES.read_text(encoding="utf-8"))
     return {int(byte, 16): name.encode() for byte, name in rows}
 
@@ -28,7 +30,7 @@ def by_name(named):
 
 
 def weights(source):
-    """What `long_guess` takes each character of a word by, and its length."""
+    """Returns the weights of `long_guess` for the characters of a word, those for its length, and the table's size."""
     parts = re.findall(r"usize::from\(word\[([^]]+)\]\) \* (\d+)", source)
     size = int(re.search(r"static GUESSES: \[u8; (\d+)\]", source)[1])
     length = re.search(r"\(length % (\d+)\) \* (\d+)", source)

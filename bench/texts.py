@@ -1,13 +1,18 @@
 #!/usr/bin/env python3
-"""Compares `wmod build` with wat2wasm of wabt on small texts: `texts.py [--short] [PROGRAM]`.
+"""Compares `wmod build` with wat2wasm of wabt on small texts.
 
-It makes texts of each rule of the text format, right and wrong, and from them texts that lack one token, have one twice,
-or have two swapped; with `--short` only the first. wmod gets each text twice: profile 2 has sign extension and no floats,
-profile 3 has floats and no sign extension. A program reads a text where the text writes some module, and accepts it where
-that is valid. Where both accept a text, `build` has to write what `canon` makes of the binary of wat2wasm. Where only one
-reads it, a class has to explain that; so too where wat2wasm writes another float than `literals.py` finds. Printed is for
-each profile how many texts each class has, with an example, and then each text that is wrong. The status is 1 where there
-is one.
+    texts.py [--short] [PROGRAM]      the program of this checkout by default
+
+It makes right and wrong texts for each rule of the text format. Without `--short`, it also makes texts from them with
+one token dropped or doubled, or with two tokens swapped. wmod gets each text under profile 2, which has sign extension
+and no floats, and under profile 3, which has floats and no sign extension.
+
+A program reads a text if the text writes a module, and accepts it if that module is valid. If both accept a text,
+`build` must write the bytes that `canon` makes from the binary of wat2wasm. If only one reads it, or if wat2wasm
+writes another float than literals.py finds, a class must explain that.
+
+For each profile the script prints the number of texts of each class, with an example, and then each text that no class
+explains. It ends with status 1 if there is one.
 """
 import collections
 import itertools
@@ -28,7 +33,7 @@ ATOM = r"[0-9A-Za-z!#$%&'*+\-./:<=>?@\\^_`|~]+"
 TOKEN = re.compile(r'"(?:[^"\\]|\\.)*"|[()]|' + ATOM)
 
 
-# Texts of each rule, the right ones and wrong ones side by side: the programs say which is which.
+# Texts of each rule. Right and wrong texts are mixed: the programs decide.
 
 
 def module(*fields):
@@ -40,7 +45,7 @@ def body(code, *fields, params=""):
 
 
 def dead(instruction):
-    """Between two `unreachable` an instruction has the operands that it wants."""
+    """Returns a body with an instruction between two `unreachable`, where it has all operands that it needs."""
     return body(f"unreachable {instruction} unreachable", "(memory 1)")
 
 
@@ -159,7 +164,7 @@ def of_elements_and_data():
 
 
 def of_abbreviations():
-    """Those of fields, which `build` leaves out; those of instructions stand with them."""
+    """Yields abbreviations of fields, which `build` does not read. `of_blocks` has those of instructions."""
     type_, function = "(type $v (func))", "(func $f (type $v))"
     for word, form in [("func", "(type $v)"), ("table", "1 funcref"), ("memory", "1"), ("global", "i32 i32.const 0")]:
         for id_ in ["", "$a"]:
@@ -172,7 +177,7 @@ def of_abbreviations():
 
 
 def plain_names():
-    """The names of all instructions, in the order of their bytes."""
+    """Returns the names of all instructions, in the order of their opcodes."""
     return [name for name in re.findall(r'=> (?:\{\s*)?b"([^"]+)"', NAMES.read_text(encoding="utf8"))]
 
 
@@ -213,7 +218,7 @@ def of_instructions():
 
 
 def of_floats():
-    """Values of floats on their way through a body."""
+    """Yields bodies in which floats pass through locals, blocks, globals, memory and calls."""
     for ty, other in [("f32", "f64"), ("f64", "f32")]:
         for last in [ty, other, "i32"]:
             function = f"(func (type $v) (param $x {ty}) (param {other}) (local $y {ty}) (local {other} {ty})"
@@ -273,7 +278,7 @@ def of_numbers():
 
 
 def beside(width):
-    """Pairs of n and an exponent: 0, 1, the greatest and the least floats, and what lies between them and the next ones."""
+    """Returns pairs of n and an exponent: 0, 1, the greatest and the least floats, and numbers close to them."""
     digits, least = literals.FORMATS[width]
     one, most = 1 << digits + 1, -least - 2 * digits
     around = [(0, range(6), least - 1), (one, range(-3, 4), least - 1), (one, range(-3, 4), -digits - 1)]
@@ -340,7 +345,7 @@ def of_white_space():
     for space in [";;", ";; a", ";;\r", ";;é"]:
         yield "(module)" + space
         yield f"(module (memory 1) {space})"
-    # the last is the byte 80, which is not UTF-8
+    # The last one is the byte 80, which is not UTF-8.
     for wrong in ["(;", "(; (; ;)", ";)", "(;)", "\x0b", "\x0c", "\xa0", "\ufeff", "\x00", ",", ";", "[", "{", "é", "\udc80"]:
         yield "(module " + wrong + ")"
         yield wrong + "(module)"
@@ -353,13 +358,13 @@ def of_white_space():
 
 RULES = [of_modules, of_types, of_imports, of_functions, of_tables_and_memories, of_globals, of_exports_and_starts]
 RULES += [of_elements_and_data, of_abbreviations, of_instructions, of_floats, of_blocks]
-# single tokens, so no further ones are made of them
+# Rules about single tokens. No changed texts are made of them.
 SPELLINGS = [of_numbers, of_float_literals, of_strings, of_identifiers, of_white_space]
 RULES += SPELLINGS
 
 
 def changes(tokens, i):
-    """Lists that lack this token, have it twice, or have it and the next swapped."""
+    """Yields the list without this token, with it doubled, and with it and the next one swapped."""
     yield tokens[:i] + tokens[i + 1 :]
     yield tokens[: i + 1] + tokens[i:]
     if i + 1 < len(tokens) and tokens[i] != tokens[i + 1]:
@@ -367,7 +372,7 @@ def changes(tokens, i):
 
 
 def changed(all_texts):
-    """Texts with one change, at each token that has other neighbours than any before."""
+    """Yields texts with one change, at each token whose neighbours are new."""
     places = set()
     for text in all_texts:
         tokens = TOKEN.findall(text)
@@ -384,11 +389,12 @@ def texts(short):
     return list(dict.fromkeys([*right, *made]))
 
 
-# What both programs say of a text, and why.
+# The answers of both programs to a text, and the reasons for differences.
 
 NAME = "(?:" + "|".join(map(re.escape, plain_names())) + ")"
 FIELD = "(?:type|import|func|table|memory|global|export|start|elem|data)"
-# What wmod refuses in texts that wat2wasm reads: of the tokens of a text, @ and the refusal's name at its place.
+# Why wmod refuses a text that wat2wasm reads. A pattern matches the tokens, with @ and the refusal's name at its
+# offset.
 STRICTER = {
     "folded instruction": rf"\( @Expected {NAME} |@Expected \( {NAME} ",
     "segment without its index": r"\( (elem|data) @Expected \( offset ",
@@ -407,7 +413,7 @@ STRICTER = {
     "floating point under profile 2": r"@Float (f32|f64|i(32|64)\.\w+_f)|@BadToken ([+-]?\d[\w.+-]*|[+-](inf|nan\S*)) ",
     "sign extension under profile 3": r"@UnknownWord i(32|64)\.extend(8|16|32)_s ",
 }
-# What wat2wasm refuses in texts that wmod reads: of a text, @ and the complaint of wat2wasm, @@ where tokens touch.
+# Why wat2wasm refuses a text that wmod reads. A pattern matches the text, @ (@@ if tokens touch) and the error message.
 LAXER = {
     "underscore in a Unicode escape": r"\\u\{[^}]*_.*@bad escape",
     "no space beside a string": "@@(invalid string token|unexpected token)",
@@ -416,7 +422,7 @@ LAXER = {
 
 
 class Answer:
-    """What a program makes of a text: `binary` where it accepts it, `reads` where the text writes some module."""
+    """An answer to a text. `binary` is None if it is not accepted; `reads` says whether the text writes a module."""
 
     def __init__(self, binary, reads, line):
         self.binary, self.reads, self.line = binary, reads, line
@@ -434,7 +440,7 @@ def built(program, profile, text):
 
 
 def assembled(program, text):
-    """That of wat2wasm; it accepts what has a binary that wmod accepts too, which is given in canonical form."""
+    """Returns the answer of wat2wasm, with its binary in canonical form; none if wmod refuses the binary."""
     words = ["wat2wasm", *FLAGS, "-", "--output=-"]
     well, out, complaint = run(words, text)
     if well:
@@ -444,14 +450,14 @@ def assembled(program, text):
 
 
 def refused(text, line):
-    """The tokens of a refused text, with @ and the refusal's name at its place."""
+    """Returns the tokens of a refused text, with @ and the refusal's name at its offset."""
     at, name = re.fullmatch(r"text refused at (\d+): (\w+)", line).groups()
     before, after = (TOKEN.findall(part.decode("utf8", "replace")) for part in (text[: int(at)], text[int(at) :]))
     return " ".join([*before, "@" + name, *after, ""])
 
 
 def touches(text):
-    """Whether a string stands right beside an atom or another string."""
+    """Whether a string is next to an atom or another string, without a space."""
     tokens = list(TOKEN.finditer(text))
     pairs = [a[0] + b[0] for a, b in zip(tokens, tokens[1:]) if a.end() == b.start()]
     return any('"' in pair and pair[0] not in "()" and pair[-1] not in "()" for pair in pairs)
@@ -462,19 +468,19 @@ def complained(text, line):
 
 
 def spelled(bits, width):
-    """The float of these bits, exactly."""
+    """Returns a literal of exactly these bits."""
     digits = literals.FORMATS[width][0]
     power, fraction = divmod(bits % (1 << width - 1), 1 << digits)
     sign = "-" if bits >> width - 1 else ""
     if power == (1 << width - 1 - digits) - 1:
         return sign + (f"nan:0x{fraction:x}" if fraction else "inf")
-    # the fraction of an f32 has a bit less than six hexadecimal digits
+    # The fraction of an f32 has 23 bits, one less than six hexadecimal digits.
     places = f"{fraction << -digits % 4:0{-(-digits // 4)}x}"
     return f"{sign}0x{min(power, 1)}.{places}p{max(power, 1) + literals.FORMATS[width][1] + digits - 1}"
 
 
 def exactly(text):
-    """The text with each literal of a float spelled by the bits that it means."""
+    """Returns the text with each float literal replaced by one of exactly its bits."""
 
     def replaced(found):
         bits = literals.meaning(found[2], int(found[1]))
@@ -488,7 +494,7 @@ def found(classes, words):
 
 
 def judged(program, text, own, other):
-    """The class of a text; what is wrong stands in capital letters."""
+    """Returns the class of a text, in capital letters if it is an error."""
     if own.line and not re.fullmatch(r"(text|module) refused at \d+: \w+", own.line):
         return "NO ANSWER"
     if own.reads and other.reads:
