@@ -231,7 +231,7 @@ def unbelieved(top):
                 yield f"{place}: OPAQUE lets it name {word}, which it does not, or which names no exact answer"
     for file in sorted(top.glob("crates/*/specs/*/**/*.antt")):
         if file.relative_to(top).parts[3] not in ("exact", "inner"):
-            yield f"{file.relative_to(top)}: lies in a folder of specs/ that says not whether it is to be believed"
+            yield f"{file.relative_to(top)}: lies in a folder of specs/ other than exact/ and inner/"
 
 
 class Sources:

@@ -35,7 +35,7 @@ def programs(name):
 
 def is_library_built():
     """Whether the library for C is proved and built. Prints the end of the output if not."""
-    print("the library for C is proved and built, which takes some minutes", flush=True)
+    print("proving and building the library for C, which takes some minutes", flush=True)
     built = subprocess.run(["rt", "lib"], cwd=CRATES / "wm_c", stdout=subprocess.PIPE, stderr=subprocess.STDOUT, text=True, check=False)
     if built.returncode:
         print(f"the library for C could not be built:\n{built.stdout[-4000:]}", flush=True)

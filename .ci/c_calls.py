@@ -151,7 +151,7 @@ def is_flat(room):
         "open comments": deep.run(convert, "build", deep.OPEN, STACK) == (1, deep.OPEN_ANSWER),
     }
     wrong = [name for name, well in answers.items() if not well]
-    print(f"C: {deep.DEPTH} blocks on a stack of {STACK} KiB: " + (f"wrong: {', '.join(wrong)}" if wrong else "well"), flush=True)
+    print(f"C: {deep.DEPTH} blocks on a stack of {STACK} KiB: " + (f"wrong: {', '.join(wrong)}" if wrong else "ok"), flush=True)
     return not wrong
 
 
@@ -159,7 +159,7 @@ def is_bare(room):
     """Whether each call takes NULL for no bytes and for no room."""
     found = line([f"{room}/null_bytes"], b"")
     is_right = found == (0, NULL_LINES.encode())
-    print("C: no bytes at NULL, and no room: " + ("well" if is_right else f"wrong: {found!r:.600}"), flush=True)
+    print("C: NULL for no bytes and for no room: " + ("ok" if is_right else f"wrong: {found!r:.600}"), flush=True)
     return is_right
 
 
@@ -180,8 +180,8 @@ def are_rows_right(room):
     if status or len(found) != len(wanted):
         wrong.append(f"status {status} after {len(found)} rows")
     if len(wanted) < LEAST:
-        wrong.append(f"{LEAST} rows at least are to be there")
-    print(f"C: {len(wanted)} rows of calls: " + (f"wrong: {'; '.join(wrong[:3])}" if wrong else "well"), flush=True)
+        wrong.append(f"at least {LEAST} rows are required")
+    print(f"C: {len(wanted)} rows of calls: " + (f"wrong: {'; '.join(wrong[:3])}" if wrong else "ok"), flush=True)
     return not wrong
 
 
@@ -189,18 +189,18 @@ def is_unanswered(room, program):
     """Whether the samples and wmod give no answer and status 3 if the input cannot be read."""
     runs = [([f"{room}/check"], "check")] + [([f"{room}/convert", action], action) for action in ("canon", "show", "build")]
     wrong = [action for words, action in runs for it in (words, [program, action, "-"]) if line_unread(it) != (3, b"")]
-    print("C: what cannot be read: " + (f"wrong: {', '.join(wrong)}" if wrong else "well"), flush=True)
+    print("C: input that cannot be read: " + (f"wrong: {', '.join(wrong)}" if wrong else "ok"), flush=True)
     return not wrong
 
 
 def is_well(archive, program):
     """Whether all tests pass. Prints a line for each test."""
     if needs.missing("calls for C"):
-        return needs.is_well_untried("C: no compiler here, so header, samples and rows of calls were not tried")
+        return needs.is_well_untried("C: no compiler here, so the header, the samples and the rows of calls were not tested")
     with tempfile.TemporaryDirectory(prefix="c-calls-") as room:
         fault = compiled(archive, room)
         wrong = [fault] if fault else [it for number in range(MODULES) for it in differences(room, program, number)]
-        print(f"C: {MODULES} modules as C and as wmod: " + (f"wrong: {'; '.join(wrong[:3])}" if wrong else "well"), flush=True)
+        print(f"C: {MODULES} modules by C and by wmod: " + (f"wrong: {'; '.join(wrong[:3])}" if wrong else "ok"), flush=True)
         return not wrong and all([is_bare(room), are_rows_right(room), is_unanswered(room, program), sweep(room), is_flat(room)])
 
 

@@ -63,7 +63,7 @@ def is_well(program):
             if found != wanted:
                 wrong += 1
                 print(f"command: {command}: {found}", flush=True)
-    few = "" if len(played) >= LEAST else f", where {LEAST} at least are to be there"
+    few = "" if len(played) >= LEAST else f"; at least {LEAST} are required"
     print(f"command: {len(played)} rows, {wrong} wrong{few}", flush=True)
     return not wrong and not few
 

@@ -37,7 +37,7 @@ def is_well(program):
         "open comments": run(program, "build", OPEN) == (1, OPEN_ANSWER),
     }
     wrong = [name for name, well in answers.items() if not well]
-    print(f"deep: {DEPTH} blocks on a stack of {STACK} KiB: " + (f"wrong: {', '.join(wrong)}" if wrong else "well"), flush=True)
+    print(f"deep: {DEPTH} blocks on a stack of {STACK} KiB: " + (f"wrong: {', '.join(wrong)}" if wrong else "ok"), flush=True)
     return not wrong
 
 

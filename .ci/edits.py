@@ -112,7 +112,7 @@ def judged(lines):
 def is_judged_well(lines):
     """Whether no line reports such an edit. Prints those that do."""
     faults = judged(lines)
-    print(*(f"edits: it shows nothing: {line}" for line in faults), sep="\n", end="\n" if faults else "")
+    print(*(f"edits: an edit shows nothing: {line}" for line in faults), sep="\n", end="\n" if faults else "")
     return not faults
 
 
@@ -123,7 +123,7 @@ def asked(words):
         crate, _, name = word.partition("/")
         found = [file for at, file in edits_of(TOP / "crates" / crate).items() if name in ("", at)]
         if not found:
-            raise SystemExit(f"no edit is {word}")
+            raise SystemExit(f"there is no edit {word}")
         files.setdefault(crate, set()).update(found)
     return files
 
@@ -159,7 +159,7 @@ def main():
         said, status = tried(files, room)
     faults = judged(said)
     count = sum(map(len, files.values()))
-    print(f"{count} edits: {len(faults)} of which the contract says less than it should", *(f"\n  {line}" for line in faults), sep="")
+    print(f"{count} edits, {len(faults)} that show nothing", *(f"\n  {line}" for line in faults), sep="")
     return status or (1 if faults else 0)
 
 

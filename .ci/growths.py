@@ -187,7 +187,7 @@ def is_name_lent(program):
         refuser = Refuser(room)
         without = refuser.run(program, ["check"], behind(0, ""))[1]
         more = [refuser.run(program, ["check"], behind(place, NAMED))[1] - without for place in range(len(bytes_of(NAMED)) + 1)]
-    print(f"growths of wmod for a name, by how many bytes of its section are read first: {more}", flush=True)
+    print(f"growths of wmod for a name, by the number of bytes of its section in the first piece: {more}", flush=True)
     return min(more) == 0 and all((it > 0) == (place in CUTS) for place, it in enumerate(more))
 
 
@@ -211,7 +211,7 @@ def is_long_list_let_go(program):
     function also tests this for a block after nested blocks.
     """
     if compiler() is None:
-        return needs.is_well_untried("growths: there is no C compiler here, so no growths of wmod behind long bodies were counted")
+        return needs.is_well_untried("growths: there is no C compiler here, so no growths of wmod after long bodies were counted")
     longs = [NOP * MOST_KEPT, NOP * (MOST_KEPT + 1)]
     deeps = [BLOCK * depth + END * depth for depth in (MOST_KEPT, MOST_KEPT + 1)]
     with tempfile.TemporaryDirectory(prefix="growths-") as room:
@@ -224,7 +224,7 @@ def is_long_list_let_go(program):
 
         ops = [more(first, b"", NOP) for first in longs]
         blocks = [more(first, NOP * 2, BLOCK + END) for first in deeps]
-    print(f"growths of wmod for a body behind a list that stays and one that does not: of ops {ops}, of open blocks {blocks}", flush=True)
+    print(f"growths of wmod for a body after a list that is reused and after one that is freed: ops {ops}, open blocks {blocks}", flush=True)
     return ops[0] + 1 == ops[1] and blocks[0] + 1 == blocks[1]
 
 

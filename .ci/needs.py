@@ -42,13 +42,13 @@ def missing(part):
 
 def is_well_untried(line):
     """Prints that a test is skipped because a tool of PARTS is missing. False if the variable CI is `true`."""
-    print(line + (": CI is to have it" if is_ci() else ""), flush=True)
+    print(line + (": CI must have it" if is_ci() else ""), flush=True)
     return not is_ci()
 
 
 def main():
     if not found("rt"):
-        print("needs: no command rt: it is that of Rattle's kit", flush=True)
+        print("needs: no command rt, which is in Rattle's kit", flush=True)
         return 1
     is_well = True
     for part in [*PARTS, *MORE]:

@@ -105,7 +105,7 @@ def check_names(it):
     """Checks that the libraries export the header's functions and no other name."""
     for words in (["nm", "-g", "--defined-only", it.to / "lib/libwmod.a"], ["nm", "-D", "--defined-only", it.to / "lib/libwmod.so"]):
         names = re.findall(r"^[0-9a-f]+ \w (\S+)$", run(*words), re.M)
-        same(f"what {words[-1].name} shows", sorted(names), declared())
+        same(f"exported names of {words[-1].name}", sorted(names), declared())
 
 
 def check_threads(it):
@@ -154,7 +154,7 @@ def check_samples(it, made):
                 if key[0] == name:
                     same(f"{key} of module {number}", run(sample, given=module, wanted=None), wanted)
     for key, sample in made.items():
-        same(f"{key} of what cannot be read", c_calls.line_unread([sample]), (3, b""))
+        same(f"{key} on input that cannot be read", c_calls.line_unread([sample]), (3, b""))
         if key[0] == "upload":
             check_stops(sample)
 
@@ -336,18 +336,18 @@ def check_removed(it):
     other = it.to / "share/man/man1/other.1"
     other.write_text("", encoding="utf-8")
     it.call("uninstall", PREFIX)
-    same("what uninstall leaves", [p for p in (it.room / "dest").rglob("*") if not p.is_dir()], [other])
+    same("files left by uninstall", [p for p in (it.room / "dest").rglob("*") if not p.is_dir()], [other])
     shutil.rmtree(it.room / "dest")
     it.call("install", PREFIX)
     it.call("uninstall", PREFIX)
-    same("what uninstall leaves at last", os.path.exists(it.room / "dest"), False)
+    same("a folder left by the last uninstall", os.path.exists(it.room / "dest"), False)
 
 
 def check_all(it):
     """Runs all tests. Skips them if a tool of needs.py is missing, which is a fault in CI."""
     missing = needs.missing("what is installed")
     if missing and needs.is_ci():
-        raise Fault(f"CI is to have {', '.join(missing)}")
+        raise Fault(f"CI must have {', '.join(missing)}")
     if missing:
         it.said += [f"no {tool}" for tool in missing]
         return
@@ -379,7 +379,7 @@ def is_well(archive, program):
         except (Fault, subprocess.TimeoutExpired) as wrong:
             fault = f"wrong: {wrong}"
     left = f" ({', '.join(it.said)} here, so that part was not tried)" if it.said else ""
-    print(f"packages: what is installed, in use: {fault or 'well'}{left}", flush=True)
+    print(f"packages: installed files: {fault or 'ok'}{left}", flush=True)
     return not fault
 
 

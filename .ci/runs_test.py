@@ -72,7 +72,7 @@ RIGHT_IN_ROWS = 'write(2, "Error: Kind(OutOfMemory)\\n", 25); return 1;'
 # the code of a stand-in for wm_rows if its growth is refused, and whether growths.py accepts it
 TRIALS_OF_ROWS = {
     "nothing wrong": (RIGHT_IN_ROWS, True),
-    "the refusal is told as another answer": (f'write(1, "no\\n", 3); {RIGHT_IN_ROWS}', False),
+    "the refusal ends in another answer": (f'write(1, "no\\n", 3); {RIGHT_IN_ROWS}', False),
     "a part of an answer": (f'write(1, "val", 3); {RIGHT_IN_ROWS}', False),
     "it ends well with no answer": ("return 0;", False),
     "it ends by another fault": ('write(2, "Error: other\\n", 13); return 1;', False),
@@ -88,9 +88,9 @@ BEHIND_OPS = len(growths.module_of(growths.NOP * PAST, growths.NOP))
 BEHIND_BLOCKS = len(growths.module_of(growths.BLOCK * PAST + growths.END * PAST, growths.BLOCK + growths.END))
 # the modules that take one growth more, and whether growths.py finds that long lists are freed
 LISTS = {
-    "both are let go": (f"size == {BEHIND_OPS} || size == {BEHIND_BLOCKS}", True),
-    "that of ops stays": (f"size == {BEHIND_BLOCKS}", False),
-    "that of open blocks stays": (f"size == {BEHIND_OPS}", False),
+    "both are freed": (f"size == {BEHIND_OPS} || size == {BEHIND_BLOCKS}", True),
+    "the list of ops stays": (f"size == {BEHIND_BLOCKS}", False),
+    "the list of open blocks stays": (f"size == {BEHIND_OPS}", False),
     "each body takes one": ("size > 1000", False),
 }
 
@@ -136,7 +136,7 @@ TRIALS_OF_COMMANDS = {
     "something is written": ("wmod check", '0 "" ""', "echo valid", False),
     "a complaint": ("wmod check", '0 "valid\\n" ""', "echo valid; echo no >&2", False),
     "a fault of standard output": ("shut wmod check", '3 "" ""', "echo valid 2>/dev/null || exit 3", True),
-    "the same, which is forgotten": ("shut wmod check", '3 "" ""', "echo valid 2>/dev/null; exit 0", False),
+    "a fault of standard output that is forgotten": ("shut wmod check", '3 "" ""', "echo valid 2>/dev/null; exit 0", False),
 }
 
 # an edit that the prover refuses, and whether the test in NAMED then fails and names a row
@@ -208,9 +208,9 @@ def trials_of_growths(room):
     for name, (refused, wanted) in TRIALS_OF_ROWS.items():
         if growths.sweep_rows(built(room, refused, "")) != wanted:
             yield f"growths.py and a stand-in for wm_rows: {name}"
-    for name, deeper, wanted in (("a block is kept", KEEPS, False), ("all is given back", GIVES_BACK, True)):
+    for name, deeper, wanted in (("a block is leaked", KEEPS, False), ("all is freed", GIVES_BACK, True)):
         if growths.swept("a stand-in", built(room, RIGHT, deeper), [(["check"], b"")], growths.kind_of, gives_back=True) != wanted:
-            yield f"growths.py and a stand-in of which all is to be given back: {name}"
+            yield f"growths.py and a stand-in that must free all: {name}"
 
 
 def trials_of_counted_growths(room):

@@ -37,10 +37,10 @@ EXACT, WORD = "names an exact answer", "names a word that names the exact answer
 # message that the script must print
 TRIALS_OF_DEFINITIONS_READ = {
     "an exact answer": (f"{RULES}/Policies.antt", FIRST, "use Rattle.wm_rules.specs.exact.Checking.{after}\nuse ", EXACT),
-    "their folder, in braces": (f"{RULES}/Policies.antt", FIRST, "use Rattle.wm_rules.specs.{exact}\nuse ", EXACT),
-    "one in braces within braces, by another name": (f"{RULES}/Policies.antt", FIRST, "use Rattle.wm_rules.{\n    specs.{Kept, exact.Checking.{after as on}}}\nuse ", EXACT),
-    "a module, passed on": (f"{RULES}/Policies.antt", FIRST, "pub use Rattle.wm_rules.specs.exact.Checking as on\nuse ", EXACT),
-    "one by the name of another import": (f"{RULES}/Policies.antt", FIRST, "use s.exact.Checking.{after}\nuse Rattle.wm_rules.specs as s\nuse ", EXACT),
+    "the folder of exact answers, in braces": (f"{RULES}/Policies.antt", FIRST, "use Rattle.wm_rules.specs.{exact}\nuse ", EXACT),
+    "an exact answer in nested braces, by another name": (f"{RULES}/Policies.antt", FIRST, "use Rattle.wm_rules.{\n    specs.{Kept, exact.Checking.{after as on}}}\nuse ", EXACT),
+    "a module that is re-exported": (f"{RULES}/Policies.antt", FIRST, "pub use Rattle.wm_rules.specs.exact.Checking as on\nuse ", EXACT),
+    "an exact answer by the name of another import": (f"{RULES}/Policies.antt", FIRST, "use s.exact.Checking.{after}\nuse Rattle.wm_rules.specs as s\nuse ", EXACT),
     "an escaped name": (f"{RULES}/Policies.antt", FIRST, "use package.Rattle.wm_rules.specs.«exact».Checking.{after}\nuse ", EXACT),
     "a path in a definition": (f"{RULES}/Policies.antt", r"\Z", "\non = Rattle.wm_rules.specs.exact.Checking.after\n", EXACT),
     "a path from another import": (f"{RULES}/Policies.antt", FIRST + r"([\s\S]*)", r"use Rattle.wm_rules.specs as s\nuse \1\non = (s.exact.Checking.after)\n", EXACT),
@@ -48,15 +48,15 @@ TRIALS_OF_DEFINITIONS_READ = {
     "an inner word over another": (f"{RULES}/Policies.antt", FIRST, "use Rattle.wm_rules.specs.inner.Loaders.{HasLoaded}\nuse ", WORD),
     "an inner word of a module": (f"{RULES}/Policies.antt", FIRST + r"([\s\S]*)", r"use Rattle.wm_rules.specs.inner.Validators as v\nuse \1\non = (v.StateRead)\n", WORD),
     "an inner word that names more than before": (f"{RULES}/inner/Loaders.antt", r"module_in c = ", "module_in c = loader_after ", WORD),
-    "an inner word that passes one on": (f"{RULES}/inner/Loaders.antt", FIRST + r"([\s\S]*)abbrev pub module_in.*\nmodule_in.*", r"pub use Rattle.wm_rules.specs.exact.Checking.{after as module_in}\nuse \1", WORD),
+    "an inner word that re-exports an exact answer": (f"{RULES}/inner/Loaders.antt", FIRST + r"([\s\S]*)abbrev pub module_in.*\nmodule_in.*", r"pub use Rattle.wm_rules.specs.exact.Checking.{after as module_in}\nuse \1", WORD),
     "a word of OPAQUE where it does not list it": (f"{RULES}/Policies.antt", FIRST, "use Rattle.wm_rules.specs.inner.Validators.{verdict}\nuse ", WORD),
     "all of a crate": (f"{RULES}/Policies.antt", FIRST, "use Rattle.wm_rules.specs as s\nuse ", "names a whole folder"),
-    "a proof": (f"{RULES}/Policies.antt", FIRST, "use Rattle.wm_rules.proofs.Names.{x}\nuse ", "names what is no definition"),
-    "what is not there": (f"{RULES}/Policies.antt", FIRST, "use Rattle.wm_rules.specs.Nowhere.{x}\nuse ", "names no file of specs/"),
+    "a name of a proof": (f"{RULES}/Policies.antt", FIRST, "use Rattle.wm_rules.proofs.Names.{x}\nuse ", "names what is no definition"),
+    "a file that does not exist": (f"{RULES}/Policies.antt", FIRST, "use Rattle.wm_rules.specs.Nowhere.{x}\nuse ", "names no file of specs/"),
     "a comment in braces": (f"{RULES}/Policies.antt", r"\Z", "{- no -}\n", "has a comment in braces"),
     "a folder of another name": (f"{RULES}/other/New.antt", "", "one = 1\n", "lies in a folder of specs/"),
     "a word of OPAQUE that is named no more": ("crates/wm_c/specs/Sessions.antt", r"\{HasRead, ", "{", "OPAQUE lets it name wm_rules.specs.inner.Validators.HasRead"),
-    "a word of OPAQUE that names none": (f"{RULES}/inner/Validators.antt", r"TellsChecker p bytes held = .*", "TellsChecker p bytes held = held", "OPAQUE lets it name wm_rules.specs.inner.Validators.TellsChecker"),
+    "a word of OPAQUE that names no exact answer": (f"{RULES}/inner/Validators.antt", r"TellsChecker p bytes held = .*", "TellsChecker p bytes held = held", "OPAQUE lets it name wm_rules.specs.inner.Validators.TellsChecker"),
 }
 LOCALS, KNOWN = "crates/wm_syntax/src/modules/locals.rt", "crates/wm_typing/src/known_locals.rt"
 NAMES = "crates/wm_rules/src/export_names.rt"
@@ -65,8 +65,8 @@ TRIALS_OF_FIELDS = {
     "a list more": (NAMES, r"( +)name: Vec<u8>,\n\}", r"\1name: Vec<u8>,\n\1more: Vec<u8>,\n}", "HashedName has other fields"),
     "a field less": (NAMES, r" +hash: u64,\n( +name: Vec<u8>,\n\})", r"\1", "HashedName has other fields"),
     "a struct that is gone": (NAMES, r"struct HashedName\b", "struct Hashed", "0 structs HashedName"),
-    "one that is no longer copied": (KNOWN, COPY.format("KnownLocals"), r"#[derive(Clone, \1", "known is not counted, and KnownLocals is not copied"),
-    "one in a list that is no longer copied": (LOCALS, COPY.format("Run"), r"#[derive(Clone, \1", "runs holds a Run, of which wm_syntax Run has no row"),
+    "a type that is no longer Copy": (KNOWN, COPY.format("KnownLocals"), r"#[derive(Clone, \1", "known is not counted, and KnownLocals is not copied"),
+    "a type in a list that is no longer Copy": (LOCALS, COPY.format("Run"), r"#[derive(Clone, \1", "runs holds a Run, of which wm_syntax Run has no row"),
 }
 
 DEFINED, READ, INNER, OF_EXACT, OF_LAWS = definitions.PAGE, definitions.READ, definitions.INNER, definitions.EXACT, definitions.LAWS
@@ -114,7 +114,7 @@ TRIALS_OF_WORDS = {
 PAGE, TABLE, ROWS = refusals.PAGE, refusals.TABLE, refusals.ROWS
 TRIALS_OF_REFUSALS = {
     "an input that is not run": (PAGE, r"`01`: refused at 1 \|", "`02`: refused at 1 |", f"only in {PAGE}: check 02 = refused at 1: Magic"),
-    "a place that is not answered": (PAGE, r"`01`: refused at 1 \|", "`01`: refused at 2 |", f"only in {PAGE}: check 01 = refused at 2: Magic"),
+    "an offset that is not answered": (PAGE, r"`01`: refused at 1 \|", "`01`: refused at 2 |", f"only in {PAGE}: check 01 = refused at 2: Magic"),
     "an input that is on no page": (ROWS, rf"({re.escape(refusals.INPUTS)})\n", r"\1\ncheck 03 = refused at 1: Magic\n", f"only in {ROWS}: check 03"),
     "a word without a row": (PAGE, r"(?m)^\| `Magic` \|.*\n", "", f"0 rows in {PAGE} for the word Magic"),
     "a word with two": (PAGE, r"(?m)^(\| `Magic` \|.*\n)", r"\1\1", f"2 rows in {PAGE} for the word Magic"),
@@ -177,9 +177,9 @@ TRIALS_OF_EDITS = {
     "two commas": (EDIT, NEW, "new: Ordering::Equal => kept + 1,,", f"{PARSE}two commas"),
     "a keyword at the end": (EDIT, NEW, "new: Ordering::Equal => { kept + 1; let }", f"{PARSE}a keyword at the end"),
     "two operands": (EDIT, NEW, "new: Ordering::Equal => kept 1,", f"{PARSE}two operands, kept 1"),
-    "two of one name": ("crates/wm_floats/edits/ties_rounded_up.edit", "", "", "two edits have the name ties_rounded_up"),
-    "one that has no row": ("crates/wm_floats/must-fail/other.edit", "", "file: src/binary.rt\nold: kept % 2\nnew: kept\n", "other edits in must-fail/ than rows"),
-    "a row of none": (edits.PAGE, r"`ties_rounded_up`", "`ties_rounded_down`", "other edits in must-fail/ than rows"),
+    "two edits of one name": ("crates/wm_floats/edits/ties_rounded_up.edit", "", "", "two edits have the name ties_rounded_up"),
+    "an edit that has no row": ("crates/wm_floats/must-fail/other.edit", "", "file: src/binary.rt\nold: kept % 2\nnew: kept\n", "other edits in must-fail/ than rows"),
+    "a row without an edit": (edits.PAGE, r"`ties_rounded_up`", "`ties_rounded_down`", "other edits in must-fail/ than rows"),
 }
 
 # the output and the status of a stand-in for rt, and the status that .ci/run must have
