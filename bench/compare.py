@@ -225,7 +225,7 @@ def shown(shape, folder, megabytes):
         file.write(output("show", shape, module))
     canonical = output("canon", shape, module)
     if output("build", shape, text) != canonical:
-        sys.exit(f"{text} is not built into the canonical binary")
+        sys.exit(f"wmod build does not make the canonical binary of {text}")
     return text, len(canonical)
 
 
@@ -261,7 +261,7 @@ def assembled(text, binary, wide=False):
     done = subprocess.run(words, capture_output=True, text=True, check=False, preexec_fn=widen if wide else None)
     if done.returncode < 0:
         return f"ended by {signal.Signals(-done.returncode).name}"
-    return None if done.returncode == 0 else (done.stderr.splitlines() or ["for no reason that it told"])[0]
+    return None if done.returncode == 0 else (done.stderr.splitlines() or ["without an error message"])[0]
 
 
 def difference(mine, other):

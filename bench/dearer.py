@@ -250,7 +250,7 @@ def main():
         print_shapes(programs)
         return
     names = [name for name in ROWS if not sys.argv[3:] or any(word in name for word in sys.argv[3:])]
-    print("| Input | OLD, million | NEW, million | NEW over OLD | another set |\n|---|---|---|---|---|", flush=True)
+    print("| Input | OLD, million | NEW, million | NEW over OLD | NEW over OLD, second input |\n|---|---|---|---|---|", flush=True)
     with ThreadPoolExecutor(2) as pool:
         for name in names:
             one, two = pool.map(lambda seed, name=name: counted(programs, name, seed), (1, 2))

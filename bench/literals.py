@@ -226,8 +226,8 @@ def main():
         bits = meaning(literal, width)
         told = by_python(literal, width)
         counts["literals"] += 1
-        counts["of these are read"] += bits is not None
-        counts["are held against Python"] += len(told)
+        counts["are read"] += bits is not None
+        counts["are compared with Python"] += len(told)
         faults = {"Python": "reads other bits" if told and told != [bits] else None}
         faults |= {name: difference(command, width, literal, bits) for name, command in programs.items()}
         for name, fault in faults.items():

@@ -463,7 +463,7 @@ def main():
     with tempfile.TemporaryDirectory() as folder:
         for module in compiled(pathlib.Path(folder)):
             wrong = "beyond 1.0, so left out" if is_later(module) else fault(program, module)
-            print(f"{module.name}: {wrong or 'the same'}, {module.stat().st_size} bytes")
+            print(f"{module.name}: {wrong or 'equal'}, {module.stat().st_size} bytes")
             faults += [wrong] if wrong and "left out" not in wrong else []
     return 1 if faults else 0
 

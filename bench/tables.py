@@ -65,7 +65,7 @@ def main():
             wrong.append(name)
             if "--write" in sys.argv[1:]:
                 path.write_text(with_table(source, name, table), encoding="utf-8")
-    print(f"tables of {len(named)} names: " + (f"not as they should be: {', '.join(wrong)}" if wrong else "well"))
+    print(f"tables of {len(named)} names: " + (f"wrong: {', '.join(wrong)}" if wrong else "ok"))
     return 1 if wrong and "--write" not in sys.argv[1:] else 0
 
 
