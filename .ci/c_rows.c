@@ -10,8 +10,8 @@
  *   name NUMBER ROOM                                      the length and the buffer, with `0` for its end
  *   version                                               the version of the library
  *
- * OPTIONS are all seven options, with `-` for no limit. INPUT is in hexadecimal digits: `H` is the header, and `.` is the
- * empty input. For `build` it is a text. ROOM is the size of the buffer. `canon` and `build` print the buffer in
+ * OPTIONS are all seven options, with `-` for no limit. INPUT is in hexadecimal digits: `H` is the header, and `.` is
+ * the empty input. For `build` it is a text. ROOM is the size of the buffer. `canon` and `build` print the buffer in
  * hexadecimal digits, and `show` prints it as a text with `|` for a line feed.
  */
 #include "wmod.h"

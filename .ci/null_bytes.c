@@ -1,5 +1,5 @@
-/* Calls each function that takes bytes with NULL and length 0, and each that takes a buffer with NULL and no room. Prints
- * a line for each call: the returned value, then the number of the refusal and its offset, or the length.
+/* Calls each function that takes bytes with NULL and length 0, and each that takes a buffer with NULL and no room.
+ * Prints a line for each call: the returned value, then the number of the refusal and its offset, or the length.
  */
 #include "wmod.h"
 #include <stdio.h>

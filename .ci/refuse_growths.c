@@ -1,7 +1,7 @@
-// A library for LD_PRELOAD that refuses growths of a program. A growth is a call of malloc, calloc or realloc from outside
-// the C library. The variable REFUSE has the number of the growth to refuse, from 1 on. If REFUSE_ON is set, all later
-// growths are refused too. At the end it writes to the file TELL the number of growths, the number refused, and the number
-// of blocks that were not freed.
+// A library for LD_PRELOAD that refuses growths of a program. A growth is a call of malloc, calloc or realloc from
+// outside the C library. The variable REFUSE has the number of the growth to refuse, from 1 on. If REFUSE_ON is set,
+// all later growths are refused too. At the end it writes to the file TELL the number of growths, the number refused,
+// and the number of blocks that were not freed.
 #define _GNU_SOURCE
 #include <errno.h>
 #include <stdio.h>
