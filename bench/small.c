@@ -1,5 +1,5 @@
-// Small functions such as plug-ins have. Lines of dashes divide them into parts. stock.py makes each small module of the
-// benchmark from a few parts.
+// Small functions such as plug-ins have. Lines of dashes divide them into parts. stock.py makes each small module of
+// the benchmark from a few parts.
 unsigned adler32_of(const unsigned char *s, unsigned n) {
   unsigned a = 1, b = 0;
   for (unsigned i = 0; i < n; i++) { a = (a + s[i]) % 65521; b = (b + a) % 65521; }
