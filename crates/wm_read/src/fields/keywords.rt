@@ -6,8 +6,8 @@ ghost use Rattle.wm_bodies.specs.exact.Reading as reading;
 ghost use Rattle.wm_tokens.specs.exact.Scan.{lexed};
 ghost use Rattle.wm_bodies.specs.inner.Views.{IsRefusal, Reads};
 
-use wm_bodies::op_immediates::refuse;
 use wm_bodies::literals::{is, is_word};
+use wm_bodies::op_immediates::refuse;
 use wm_syntax::modules::ExportKind;
 use wm_tokens::faults::{TextFault, TextWhy};
 use wm_tokens::lexeme::{Lexeme, next_token};

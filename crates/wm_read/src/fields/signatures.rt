@@ -6,9 +6,9 @@ ghost use Rattle.wm_tokens.specs.exact.Scan.{lexed};
 ghost use Rattle.wm_bodies.specs.inner.Views.{Reads};
 
 use std::alloc::Global;
-use wm_bodies::op_immediates::{close_forms, open, word};
 use wm_bodies::named;
 use wm_bodies::named_uses::types_of;
+use wm_bodies::op_immediates::{close_forms, open, word};
 use wm_bodies::type_uses::groups;
 use wm_syntax::profile::Profile;
 use wm_syntax::types::FuncType;

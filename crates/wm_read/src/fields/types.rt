@@ -6,8 +6,8 @@ ghost use Rattle.wm_bodies.specs.exact.Reading as reading;
 ghost use Rattle.wm_tokens.specs.exact.Scan.{lexed};
 ghost use Rattle.wm_bodies.specs.inner.Views.{Reads};
 
-use wm_bodies::op_immediates::{number, paren_type, refuse, val_type, word};
 use wm_bodies::literals::{is_id, is_word};
+use wm_bodies::op_immediates::{number, paren_type, refuse, val_type, word};
 use wm_syntax::profile::Profile;
 use wm_syntax::types::{GlobalType, Limits};
 use wm_tokens::faults::{TextFault, TextWhy};
