@@ -12,12 +12,13 @@ A program reads a text if the text writes a module, and accepts it if that modul
 writes another float than literals.py finds, a class must explain that.
 
 For each profile the script prints the number of texts of each class, with an example, and then each text that no class
-explains. It ends with status 1 if there is one.
+explains. It ends with status 1 if there is one. Without wat2wasm it compares nothing, says this and ends with status 2.
 """
 import collections
 import itertools
 import pathlib
 import re
+import shutil
 import subprocess
 import sys
 
@@ -124,9 +125,12 @@ def of_globals():
         yield module(f"(global {first})")
     wrong = ["i32", "i32 (i32.const 1)", "i32 i64.const 1", "i32 i32.const 0 i32.const 0", "i32 nop", "i32 global.get 0"]
     wrong += ["f32", "f32 f64.const 1", "f64 f32.const 1", "f32 i32.const 1", "i64 f64.const 1", "f32 f32.const 1 f32.neg"]
+    wrong += ["i64 (i64.const 1)", "$g (mut f64) (f64.const 1)", "i32 ()", "i32 (nop)", "i32 (foo)", "i32 (param)", "i32 ((i32.const 1))"]
+    wrong += ["i32 (i32.const 1 (i32.const 2))", "i32 (i32.const 1) (i32.const 2)", "i32 (i32.const 1 nop)", "i32 i32.const 1 (nop)"]
     for form in wrong:
         yield module(f"(global {form})")
     yield module('(import "a" "b" (global $g i32))', "(global $h i32 global.get $g)", "(global i32 global.get 0)")
+    yield module('(import "a" "b" (global $g i32))', "(global i32 (global.get $g))")
     yield module('(import "a" "b" (global $g (mut i32)))', "(global i32 global.get $g)")
     yield module("(global $g i32 i32.const 0)", "(global i32 global.get $g)")
     yield module("(global $g i32 i32.const 0)", "(global $g i32 i32.const 0)")
@@ -149,16 +153,27 @@ def of_elements_and_data():
     items = ["(type $t (func))", '(import "a" "b" (global $g i32))', "(func $f (type $t))", "(table $a 9 funcref)", "(memory $m 1)"]
     offsets = ["(offset i32.const 0)", "(offset global.get $g)", "(offset global.get 0)"]
     offsets += ["(offset i64.const 0)", "(offset)", "(offset nop)", "(i32.const 0)", "(offset (i32.const 0))", "i32.const 0"]
+    offsets += ["(global.get $g)", "(offset (global.get 0))", "()", "(nop)", "(ofset i32.const 0)", "(offset (offset i32.const 0))"]
+    offsets += ["(i32.const 0 (i32.const 1))", "(offset (i32.const 0) nop)", "((i32.const 0))"]
     for offset in offsets:
         yield module(*items, f"(elem $a {offset} $f 0 $f)")
         yield module(*items, f"(elem 0 {offset})")
+        yield module(*items, f"(elem {offset} func $f $f)")
+        yield module(*items, f"(elem $e {offset} $f)")
         yield module(*items, f'(data $m {offset} "a" "b")')
         yield module(*items, f"(data 0 {offset})")
+        yield module(*items, f'(data {offset} "a")')
+        yield module(*items, f'(data $d {offset} "a")')
     yield module(*items, '(data $d (offset i32.const 0) "a")')
     yield module(*items, '(data 9 (offset i32.const 0) "a")')
     yield module(*items, "(elem (offset i32.const 0) $f)")
     yield module(*items, '(data (offset i32.const 0) "a")')
     yield module(*items, "(elem 0 (offset i32.const 0) func $f)")
+    yield module(*items, "(elem (i32.const 0) func)")
+    yield module(*items, "(elem func (i32.const 0) $f)")
+    yield module(*items, '(data $d "a")')
+    yield module(*items, "(data $d (i32.const 0))", "(data $d (i32.const 0))")
+    yield module(*items, "(elem $m (i32.const 0) $f)", '(data $a (i32.const 0) "a")')
     yield module(*items, "(elem 0 (offset i32.const 0) 7)")
     yield module("(elem $a (offset i32.const 0) $f)", '(data $m (offset i32.const 0) "")', *(items[:1] + items[2:]))
 
@@ -396,12 +411,11 @@ FIELD = "(?:type|import|func|table|memory|global|export|start|elem|data)"
 # Why wmod refuses a text that wat2wasm reads. A pattern matches the tokens, with @ and the refusal's name at its
 # offset.
 STRICTER = {
-    "folded instruction": rf"\( @Expected {NAME} |@Expected \( {NAME} ",
-    "segment without its index": r"\( (elem|data) @Expected \( offset ",
+    "folded instruction of a body": rf"\( func ((?!\( (global|elem|data) ).)*(\( @Expected|@Expected \() {NAME} ",
     "import, export or contents within a field": r"\( (func|table|memory|global) (\$\S+ )?(\( )?@\w+ (\( )?(export|import|data|funcref) ",
     "no type use": r"\( func (\$\S+ )?(\( )?@Expected |call_indirect (\( )?@Expected ",
     "no word module": rf"^\( @Expected {FIELD} ",
-    "later than 1.0": r"\) @Expected func |data (\$\S+ @Expected \$|@UnknownId )|(block|loop|if) (\$\S+ )?\( @Expected (type|param) |@Expected tag ",
+    "later than 1.0": r"data (\$\S+ @Expected \$|@UnknownId )|(block|loop|if) (\$\S+ )?\( @Expected (type|param) |@Expected tag ",
     "no result of a block, or two": r"(block|loop|if) (\$\S+ )?\( result (@Expected \)|[if](32|64) (\) )?@Expected )",
     "constant that is not one instruction": r"@NotConst |(offset|global [if](32|64)) @Expected \) ",
     "type use of no type": "@TypeUse ",
@@ -418,6 +432,7 @@ LAXER = {
     "underscore in a Unicode escape": r"\\u\{[^}]*_.*@bad escape",
     "no space beside a string": "@@(invalid string token|unexpected token)",
     "data of a memory that is not there, which both refuse": "@memory variable out of range",
+    "identifier of an element segment": r"\(\s*elem\s+\$.*@undefined table variable",
 }
 
 
@@ -512,6 +527,9 @@ def judged(program, text, own, other):
 
 
 def main():
+    if not shutil.which("wat2wasm"):
+        print("texts: wat2wasm is missing, so nothing is compared", file=sys.stderr)
+        return 2
     words = [w for w in sys.argv[1:] if not w.startswith("--")]
     program = words[0] if words else str(PROGRAM)
     classes = {profile: collections.defaultdict(list) for profile in PROFILES}

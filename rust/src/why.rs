@@ -180,8 +180,9 @@ refusals! {
     /// A string has a malformed escape, or one that is no Unicode scalar value. N is the offset of the string's opening
     /// quote.
     105 "BadEscape" TextBadEscape,
-    /// Another token must come here, such as an instruction and not a number, string or identifier. If a form may not
-    /// follow a type use, parameters, results or locals, N is the offset of the keyword after its parenthesis.
+    /// Another token must come here, such as an instruction and not a number, string or identifier. A form may be wrong
+    /// after a type use, parameters, results, locals or a constant, or in place of a constant or an offset. N is then
+    /// the offset of the token after its parenthesis.
     106 "Expected" TextExpected,
     /// A keyword names no field, or no instruction of the profile. An `else` or `end` without a block is also refused
     /// by this name.

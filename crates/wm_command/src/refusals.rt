@@ -111,10 +111,11 @@ pub const OF_TEXTS: &str = "\
         offset of the string's opening quote. | 6.3.3 | `\"\\x`: at 0 | Use `\\t \\n \\r \\\" \\' \
         \\\\`, a backslash and two hexadecimal digits, or `\\u{..}`.\n\
     Expected | Another token must come here, such as an instruction and not a number, string or \
-        identifier. If a form may not follow a type use, parameters, results or locals, N is the \
-        offset of the keyword after its parenthesis. | 6.4 to 6.6 | the empty text: at 0 | Write \
-        `(module ..)` without abbreviations: each instruction without parentheses, each type use \
-        with its `(type ..)`, each export as a field.\n\
+        identifier. A form may be wrong after a type use, parameters, results, locals or a constant, \
+        or in place of a constant or an offset. N is then the offset of the token after its \
+        parenthesis. | 6.4 to 6.6 | the empty text: at 0 | Write `(module ..)`, each instruction of \
+        a body without parentheses, each type use with its `(type ..)`, and each export as a \
+        field.\n\
     UnknownWord | A keyword names no field, or no instruction of the profile. An `else` or `end` \
         without a block is also refused by this name. | 6.5, 6.6 | `(module(a`: at 8 | Look up the \
         keyword in 6.5 and 6.6. For sign extension use `--profile 2`, or `4` with floats. For old \
@@ -125,8 +126,7 @@ pub const OF_TEXTS: &str = "\
         and has no sign.\n\
     BadFloat | A number or a NaN is no float of the wanted width: it is malformed, rounds to an \
         infinity, or has a payload that is 0 or out of range. | 6.3.2 | with `--profile 3` \
-        `(module(global f32 f32.const 1e39))`: at 29 | Write a number that fits the width, or \
-        `inf`.\n\
+        `(module(data(f32.const 1e39)))`: at 23 | Write a number that fits the width, or `inf`.\n\
     BadName | The name of an import or export is not UTF-8. N is the offset of its string. | 6.3.4 | \
         `(module(import\"\\ff\"`: at 14 | Encode names in UTF-8.\n\
     UnknownId | An identifier names nothing in its index space, or no open block. N is its offset. | \
@@ -143,8 +143,8 @@ pub const OF_TEXTS: &str = "\
     SecondStart | The module has a second start function. N is the offset of the second keyword \
         `start`. | 6.6.13 | `(module(start)(start`: at 15 | Keep one start function.\n\
     NotConst | A constant expression has an instruction that is not constant, or a second \
-        instruction. N is the offset of its keyword. | 3.3.7, 6.5.8 | `(module(global i32 if))`: at \
-        19 | Write one constant, or one `global.get`.\n\
+        instruction. N is the offset of its keyword. | 3.3.7, 6.5.8 | `(module(data(if)))`: at 13 | \
+        Write one constant, or one `global.get`.\n\
     BadAlign | An alignment is not a power of two. N is the offset of `align=`. | 6.5.5 | \
         `(module(type(func))(func(type 0)i32.load align=0))`: at 41 | Write 1, 2, 4 or 8.\n\
     LabelEnd | The identifier after an `else` or `end` is not that of its block. N is the offset of \

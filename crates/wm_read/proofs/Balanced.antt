@@ -14,7 +14,7 @@ use Rattle.wm_syntax.proofs.ProfileLaws.{four_has, module_of_four}
 use Rattle.wm_tokens.specs.Tokens.{Token, open_paren, close_paren, atom}
 use Rattle.wm_tokens.specs.Identifiers.{Ids, Resolves}
 use Rattle.wm_tokens.specs.Written.{Named, WritesGroups, Names, TypeUse, Scope, WritesInstructions}
-use Rattle.wm_tokens.specs.Fields.{WritesName, WritesLimits, WritesTableType, WritesGlobalType, WritesConst, WritesExport, WritesStrings, WritesOffset}
+use Rattle.wm_tokens.specs.Fields.{WritesName, WritesLimits, WritesTableType, WritesGlobalType, WritesConst, WritesExport, WritesStrings, WritesOffset, WritesTarget, WritesFunctions}
 use Rattle.wm_read.specs.exact.FirstReading.{skip}
 use Rattle.wm_bodies.specs.exact.Reading.{is_word}
 use Rattle.wm_read.proofs.WrittenForms.{Closed, keeps_then, keeps_groups, keeps_use, keeps_index, keeps_instructions, keeps_limits, keeps_table_type, keeps_global_type, keeps_const, keeps_export, keeps_element, keeps_segment}
@@ -78,8 +78,8 @@ balanced_export = keeps_export Balanced Any closed Four any
 pub balanced_start : (names : Names) (x : ℕ) → AllBalanced (Resolves names.functions x)
 balanced_start names x = keeps_index Balanced Any closed Four any names.functions x
 
-pub balanced_element : (names : Names) (e : Element) → AllBalanced (Resolves names.tables e.table ▸ WritesOffset names e.offset ▸ Each (Resolves names.functions) e.functions)
+pub balanced_element : (names : Names) (e : Element) → AllBalanced (WritesTarget names.tables e.table ▸ WritesOffset names e.offset ▸ WritesFunctions names.functions e.functions)
 balanced_element names e = keeps_element Balanced Any closed Four any names e (four_has (feature_of (constant e.offset)))
 
-pub balanced_segment : (names : Names) (s : Segment) → AllBalanced (Resolves names.memories s.memory ▸ WritesOffset names s.offset ▸ WritesStrings s.bytes)
+pub balanced_segment : (names : Names) (s : Segment) → AllBalanced (WritesTarget names.memories s.memory ▸ WritesOffset names s.offset ▸ WritesStrings s.bytes)
 balanced_segment names s = keeps_segment Balanced Any closed Four any names s (four_has (feature_of (constant s.offset)))

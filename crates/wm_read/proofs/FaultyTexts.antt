@@ -18,7 +18,7 @@ use Rattle.wm_tokens.specs.TokenFaults.{IsAmong, LeadsTo, FirstFault}
 use Rattle.wm_tokens.specs.TokenFaults as lead
 use Rattle.wm_tokens.specs.Identifiers.{Id, WritesId, Resolves}
 use Rattle.wm_tokens.specs.Written.{Paren, WritesGroups, WritesResults, Names, Scope, TypeUse, WritesInstructions, ids_of}
-use Rattle.wm_tokens.specs.Fields.{Field, type_field, import_field, function_field, table_field, memory_field, global_field, export_field, start_field, element_field, segment_field, WritesName, WritesSignature, WritesLimits, WritesTableType, WritesGlobalType, WritesConst, WritesDesc, WritesExport, WritesOffset, WritesStrings, WritesField, Writes, function_of, global_of, element_of, segment_of, names_of}
+use Rattle.wm_tokens.specs.Fields.{Field, type_field, import_field, function_field, table_field, memory_field, global_field, export_field, start_field, element_field, segment_field, WritesName, WritesSignature, WritesLimits, WritesTableType, WritesGlobalType, WritesConst, WritesDesc, WritesExport, WritesOffset, WritesTarget, WritesFunctions, WritesStrings, WritesField, Writes, function_of, global_of, element_of, segment_of, names_of}
 use Rattle.wm_read.specs.Spellings.{IsTextOf, replaced}
 use Rattle.wm_tokens.specs.declared.faults.TextWhy.{TextWhy}
 use Rattle.wm_read.specs.declared.spellings.Spellings.{Spellings}
@@ -126,10 +126,10 @@ module _ (p : Profile) (none : has p Floats ≡ false) where
   plain_field names (start_field x) fine f h =
       paren (codes "start") refl (Resolves names.functions x) (keeps_index Plain IsPlain closed p float names.functions x) f h
   plain_field names (element_field e) fine f h =
-      paren (codes "elem") refl (Resolves names.tables e.table ▸ WritesOffset names e.offset ▸ Each (Resolves names.functions) e.functions)
+      paren (codes "elem") refl (WritesTarget names.tables e.table ▸ WritesOffset names e.offset ▸ WritesFunctions names.functions e.functions)
       (keeps_element Plain IsPlain closed p float names e fine) f h
   plain_field names (segment_field s) fine f h =
-      paren (codes "data") refl (Resolves names.memories s.memory ▸ WritesOffset names s.offset ▸ WritesStrings s.bytes)
+      paren (codes "data") refl (WritesTarget names.memories s.memory ▸ WritesOffset names s.offset ▸ WritesStrings s.bytes)
       (keeps_segment Plain IsPlain closed p float names s fine) f h
 
   plain_fields : (names : Names) (fields : List Field) → AllByRecursion IsFine fields → AllPlain (Each (WritesField names) fields)

@@ -12,20 +12,21 @@ use Rattle.wm_syntax.specs.Types.{Signature}
 use Rattle.wm_tokens.specs.Tokens.{Token, open_paren, close_paren, string, atom}
 use Rattle.wm_tokens.specs.Identifiers.{WritesId, Resolves}
 use Rattle.wm_tokens.specs.Written.{Names, Paren}
-use Rattle.wm_tokens.specs.Fields.{Field, type_field, import_field, function_field, table_field, memory_field, global_field, export_field, start_field, element_field, segment_field, HasDistinct, WritesExport, WritesField, WritesLimits, WritesName, WritesStrings, WritesTableType, module_of}
+use Rattle.wm_tokens.specs.Fields.{Field, type_field, import_field, function_field, table_field, memory_field, global_field, export_field, start_field, element_field, segment_field, HasDistinct, WritesExport, WritesField, WritesFunctions, WritesLimits, WritesName, WritesStrings, WritesTableType, WritesTarget, module_of}
 use Rattle.wm_read.specs.declared.fields.keywords.FieldKind.{FieldKind}
 use Rattle.wm_read.specs.declared.fields.keywords.FieldKind.TheVariants as kind
-use Rattle.wm_bodies.specs.exact.Reading.{atom_at, id_at, index_of, labels_at, then_at}
+use Rattle.wm_bodies.specs.exact.Reading.{atom_at, id_at, index_of, then_at}
 use Rattle.wm_bodies.specs.exact.TypeUses.{begins_open}
 use Rattle.wm_read.specs.exact.Signatures.{signature_at}
 use Rattle.wm_read.specs.exact.FieldTypes.{limits_at, table_type_at, global_type_at}
-use Rattle.wm_read.specs.exact.Fields.{field_word, field_named, name_at, bytes_at, const_at, offset_at, desc_at, item_at, function_at, inside_at, field_at, fields_at}
-use Rattle.wm_read.proofs.FieldParts.{OfConst, OfDesc, OfOffset, headed_sound, headed_complete, with_found, name_sound, name_complete, bytes_sound, bytes_complete, const_sound, const_complete, offset_sound, offset_complete, desc_sound, desc_complete, item_sound, item_complete, indices_sound, indices_complete, number_not_id, table_not_id, type_not_id, use_not_id, close_number}
+use Rattle.wm_read.specs.exact.Fields.{field_word, field_named, name_at, bytes_at, const_at, offset_at, target_at, functions_at, desc_at, item_at, function_at, inside_at, field_at, fields_at}
+use Rattle.wm_read.proofs.FieldParts.{OfConst, OfDesc, OfOffset, headed_sound, headed_complete, with_found, name_sound, name_complete, bytes_sound, bytes_complete, const_sound, const_complete, offset_sound, offset_complete, offset_opens, desc_sound, desc_complete, item_sound, item_complete, number_not_id, table_not_id, type_not_id, use_not_id, close_number}
 use Rattle.wm_read.proofs.FieldTypes.{NoNumber, OfGlobalType, limits_sound, limits_complete, table_type_sound, table_type_complete, global_type_sound, global_type_complete}
 use Rattle.wm_read.proofs.FunctionLaws.{FunctionAt, function_sound, function_complete}
 use Rattle.wm_bodies.proofs.Immediates.{NotId, id_sound, id_complete}
 use Rattle.wm_bodies.proofs.Indices.{index_sound, index_complete}
 use Rattle.wm_bodies.proofs.Readers.{Sound, Complete, Any, Both, Begins, BeginsClose, made_is, made_sound, many_complete, many_sound, then_complete, then_sound}
+use Rattle.wm_read.proofs.SegmentParts.{Opens, functions_complete, functions_sound, target_complete, target_sound}
 use Rattle.wm_read.proofs.SignatureLaws.{OfSignature, signature_sound, signature_complete}
 use Rattle.wm_bodies.proofs.TypeUseLaws.{KnowsTypes}
 
@@ -66,8 +67,8 @@ Inside p Fn names (memory_field id l) = WritesId id ▸ WritesLimits l
 Inside p Fn names (global_field id g) = WritesId id ▸ OfGlobalType p g.ty ▸ OfConst p names g.init
 Inside p Fn names (export_field e) = WritesName e.name ▸ Item names (e.kind, e.index)
 Inside p Fn names (start_field x) = Resolves names.functions x
-Inside p Fn names (element_field e) = Resolves names.tables e.table ▸ OfOffset p names e.offset ▸ Each (Resolves names.functions) e.functions
-Inside p Fn names (segment_field s) = Resolves names.memories s.memory ▸ OfOffset p names s.offset ▸ WritesStrings s.bytes
+Inside p Fn names (element_field e) = WritesTarget names.tables e.table ▸ OfOffset p names e.offset ▸ WritesFunctions names.functions e.functions
+Inside p Fn names (segment_field s) = WritesTarget names.memories s.memory ▸ OfOffset p names s.offset ▸ WritesStrings s.bytes
 
 abbrev Written : Profile → Names → Field → Form Token
 Written p names f k = WritesField names f k × FieldOf p f
@@ -142,14 +143,14 @@ module _ (p : Profile) (names : Names) (Fn : Function → Form Token) (fn_sound 
       (then_sound name_at (item_at names) WritesName (Item names) name_sound (item_sound names)) (λ x front h. (refl, h))
   inside_sound kind.Start = made_sound start_field (atom_at (index_of names.functions)) (Resolves names.functions) (OfKind p Fn names kind.Start) (index_sound names.functions) (λ x front h. (refl, h))
   inside_sound kind.Elem =
-      made_sound (λ x. element_field (record { table = x.0; offset = x.1.0; functions = x.1.1 })) (then_at (atom_at (index_of names.tables)) (then_at (offset_at p names) (labels_at names.functions)))
-      (Both (Resolves names.tables) (Both (OfOffset p names) (Each (Resolves names.functions)))) (OfKind p Fn names kind.Elem)
-      (then_sound (atom_at (index_of names.tables)) (then_at (offset_at p names) (labels_at names.functions)) (Resolves names.tables) (Both (OfOffset p names) (Each (Resolves names.functions))) (index_sound names.tables)
-      (then_sound (offset_at p names) (labels_at names.functions) (OfOffset p names) (Each (Resolves names.functions)) (offset_sound p names) (indices_sound names.functions))) (λ x front h. (refl, h))
+      made_sound (λ x. element_field (record { table = x.0; offset = x.1.0; functions = x.1.1 })) (then_at (target_at names.tables) (then_at (offset_at p names) (functions_at names.functions)))
+      (Both (WritesTarget names.tables) (Both (OfOffset p names) (WritesFunctions names.functions))) (OfKind p Fn names kind.Elem)
+      (then_sound (target_at names.tables) (then_at (offset_at p names) (functions_at names.functions)) (WritesTarget names.tables) (Both (OfOffset p names) (WritesFunctions names.functions)) (target_sound names.tables)
+      (then_sound (offset_at p names) (functions_at names.functions) (OfOffset p names) (WritesFunctions names.functions) (offset_sound p names) (functions_sound names.functions))) (λ x front h. (refl, h))
   inside_sound kind.Data =
-      made_sound (λ x. segment_field (record { memory = x.0; offset = x.1.0; bytes = x.1.1 })) (then_at (atom_at (index_of names.memories)) (then_at (offset_at p names) bytes_at))
-      (Both (Resolves names.memories) (Both (OfOffset p names) WritesStrings)) (OfKind p Fn names kind.Data)
-      (then_sound (atom_at (index_of names.memories)) (then_at (offset_at p names) bytes_at) (Resolves names.memories) (Both (OfOffset p names) WritesStrings) (index_sound names.memories)
+      made_sound (λ x. segment_field (record { memory = x.0; offset = x.1.0; bytes = x.1.1 })) (then_at (target_at names.memories) (then_at (offset_at p names) bytes_at))
+      (Both (WritesTarget names.memories) (Both (OfOffset p names) WritesStrings)) (OfKind p Fn names kind.Data)
+      (then_sound (target_at names.memories) (then_at (offset_at p names) bytes_at) (WritesTarget names.memories) (Both (OfOffset p names) WritesStrings) (target_sound names.memories)
       (then_sound (offset_at p names) bytes_at (OfOffset p names) WritesStrings (offset_sound p names) bytes_sound)) (λ x front h. (refl, h))
 
   pub field_front : Sound (field_at p names) (λ f k. (x : FieldKind) × Paren (field_word x) (OfKind p Fn names x f) k)
@@ -193,6 +194,10 @@ module _ (p : Profile) (names : Names) (d : HasDistinct names) (knows : KnowsTyp
   global_not_id : (y : GlobalType × Const) (front rest : List Token) → Both (OfGlobalType p) (OfConst p names) y front → NotId (front ++ rest)
   global_not_id y front rest (a, b, e, w, m) = subst NotId (sym (ap (λ (z : List Token). z ++ rest) e ∙ append_assoc a b rest)) (type_not_id y.0.var y.0.ty a (b ++ rest) w.0)
 
+  -- an offset comes first
+  offset_first : (c : Const) (P : Form Token) (front rest : List Token) → (OfOffset p names c ▸ P) front → Opens (front ++ rest)
+  offset_first c P front rest (a, b, e, h, more) = ap (λ (z : List Token). begins_open (z ++ rest)) e ∙ ap begins_open (append_assoc a b rest) ∙ offset_opens p names c a (b ++ rest) h
+
   inside_complete : (f : Field) (front rest : List Token) → Inside p (FunctionAt p names) names f front → BeginsClose rest → inside_at p names (kind_of f) (front ++ rest) ≡ Some (f, rest)
   inside_complete (type_field id f) front rest h c =
       made_is (λ x. type_field x.0 x.1) (then_at id_at (signature_at p) (front ++ rest)) (id, f) rest
@@ -221,19 +226,19 @@ module _ (p : Profile) (names : Names) (d : HasDistinct names) (knows : KnowsTyp
       (then_complete name_at (item_at names) WritesName (Item names) Any Any name_complete (item_complete names d) (λ y a b w g. tt) (e.name, (e.kind, e.index)) front rest h tt)
   inside_complete (start_field x) front rest h c = made_is start_field (atom_at (index_of names.functions) (front ++ rest)) x rest (index_complete names.functions d.functions x front rest h tt)
   inside_complete (element_field e) front rest h c =
-      made_is (λ x. element_field (record { table = x.0; offset = x.1.0; functions = x.1.1 })) (then_at (atom_at (index_of names.tables)) (then_at (offset_at p names) (labels_at names.functions)) (front ++ rest))
+      made_is (λ x. element_field (record { table = x.0; offset = x.1.0; functions = x.1.1 })) (then_at (target_at names.tables) (then_at (offset_at p names) (functions_at names.functions)) (front ++ rest))
       (e.table, (e.offset, e.functions)) rest
-      (then_complete (atom_at (index_of names.tables)) (then_at (offset_at p names) (labels_at names.functions)) (Resolves names.tables) (Both (OfOffset p names) (Each (Resolves names.functions))) Any BeginsClose
-      (index_complete names.tables d.tables)
-      (then_complete (offset_at p names) (labels_at names.functions) (OfOffset p names) (Each (Resolves names.functions)) Any BeginsClose (offset_complete p names d) (indices_complete names.functions d.functions) (λ y a b w g. tt))
-      (λ y a b w g. tt) (e.table, (e.offset, e.functions)) front rest h c)
+      (then_complete (target_at names.tables) (then_at (offset_at p names) (functions_at names.functions)) (WritesTarget names.tables) (Both (OfOffset p names) (WritesFunctions names.functions)) Opens BeginsClose
+      (target_complete names.tables d.tables)
+      (then_complete (offset_at p names) (functions_at names.functions) (OfOffset p names) (WritesFunctions names.functions) Any BeginsClose (offset_complete p names d) (functions_complete names.functions d.functions) (λ y a b w g. tt))
+      (λ y a b w g. offset_first y.0 (WritesFunctions names.functions y.1) a b w) (e.table, (e.offset, e.functions)) front rest h c)
   inside_complete (segment_field s) front rest h c =
-      made_is (λ x. segment_field (record { memory = x.0; offset = x.1.0; bytes = x.1.1 })) (then_at (atom_at (index_of names.memories)) (then_at (offset_at p names) bytes_at) (front ++ rest))
+      made_is (λ x. segment_field (record { memory = x.0; offset = x.1.0; bytes = x.1.1 })) (then_at (target_at names.memories) (then_at (offset_at p names) bytes_at) (front ++ rest))
       (s.memory, (s.offset, s.bytes)) rest
-      (then_complete (atom_at (index_of names.memories)) (then_at (offset_at p names) bytes_at) (Resolves names.memories) (Both (OfOffset p names) WritesStrings) Any BeginsClose
-      (index_complete names.memories d.memories)
+      (then_complete (target_at names.memories) (then_at (offset_at p names) bytes_at) (WritesTarget names.memories) (Both (OfOffset p names) WritesStrings) Opens BeginsClose
+      (target_complete names.memories d.memories)
       (then_complete (offset_at p names) bytes_at (OfOffset p names) WritesStrings Any BeginsClose (offset_complete p names d) bytes_complete (λ y a b w g. tt))
-      (λ y a b w g. tt) (s.memory, (s.offset, s.bytes)) front rest h c)
+      (λ y a b w g. offset_first y.0 (WritesStrings y.1) a b w) (s.memory, (s.offset, s.bytes)) front rest h c)
 
   -- ---- a field
 

@@ -3,7 +3,7 @@ use Rattle.std.proofs.Common.{◌≡◌, ℕ, Bool, true, false, List, [], ◌�
 use Rattle.std.specs.Prelude.{codes, flat_map, map}
 use Rattle.std.specs.Str.{is_utf8}
 use Rattle.std.proofs.lemmas.Str.{IsUtf8-from_is_utf8, is_utf8-from_IsUtf8}
-use Rattle.std.proofs.lemmas.Bool.{cond-true}
+use Rattle.std.proofs.lemmas.Bool.{cond-true, cond-false}
 use Rattle.wm_syntax.specs.Spelling.{Form, Each, ◌▸◌}
 use Rattle.wm_syntax.specs.declared.types.Const.{Const}
 use Rattle.wm_syntax.specs.declared.types.Const.TheVariants as const
@@ -27,14 +27,14 @@ use Rattle.wm_syntax.specs.Modules.{constant}
 use Rattle.wm_syntax.specs.Profiles.{HasConst, HasDesc}
 use Rattle.wm_tokens.specs.Tokens.{Token, open_paren, close_paren, string, atom}
 use Rattle.wm_tokens.specs.Identifiers.{Id, Ids, AreDistinct, WritesId, Resolves, ResolvesLabel}
-use Rattle.wm_tokens.specs.Written.{Named, Names, Scope, Paren, TypeUse}
-use Rattle.wm_tokens.specs.Fields.{HasDistinct, WritesConst, WritesDesc, WritesExport, WritesGlobalType, WritesLimits, WritesName, WritesOffset, WritesStrings, WritesTableType}
+use Rattle.wm_tokens.specs.Written.{Named, Names, Scope, Paren, TypeUse, WritesSimple}
+use Rattle.wm_tokens.specs.Fields.{HasDistinct, WritesConst, WritesDesc, WritesExport, WritesGlobalType, WritesLimits, WritesName, WritesOffset, WritesFolded, WritesStrings, WritesTableType}
 use Rattle.wm_bodies.specs.inner.Pieces.{Piece, plain}
-use Rattle.wm_bodies.specs.exact.Reading.{Reader, ◌>>=◌, made, close_at, atom_at, then_at, paren_at, id_at, index_of, integer_of, labels_at, class_at, kind_at, piece_at, same_bytes}
-use Rattle.wm_bodies.specs.exact.TypeUses.{call_use_at}
+use Rattle.wm_bodies.specs.exact.Reading.{Reader, ◌>>=◌, made, open_at, close_at, atom_at, then_at, paren_at, id_at, index_of, integer_of, labels_at, class_at, kind_at, piece_at, same_bytes}
+use Rattle.wm_bodies.specs.exact.TypeUses.{begins_group, begins_open, call_use_at}
 use Rattle.wm_bodies.specs.exact.NamedUses.{named_use_at}
 use Rattle.wm_read.specs.exact.FieldTypes.{limits_at, table_type_at, global_type_at}
-use Rattle.wm_read.specs.exact.Fields.{item_word, with_word, item_named, headed_at, name_at, strings_at, bytes_at, const_kind, const_class, const_at, offset_at, desc_kind, desc_at, space_of, item_at}
+use Rattle.wm_read.specs.exact.Fields.{item_word, with_word, item_named, headed_at, name_at, strings_at, bytes_at, const_kind, const_class, instruction_at, folded_at, const_at, offset_at, desc_kind, desc_at, space_of, item_at}
 use Rattle.wm_tokens.proofs.Atoms.{magnitude_more}
 use Rattle.wm_tokens.proofs.Basics.{chosen, same_some}
 use Rattle.wm_read.proofs.FieldTypes.{NoNumber, OfGlobalType, limits_sound, limits_complete, table_type_sound, table_type_complete, global_type_sound, global_type_complete}
@@ -45,7 +45,7 @@ use Rattle.wm_bodies.proofs.Immediates.{NotId, NotIndex, id_sound, id_complete, 
 use Rattle.wm_bodies.proofs.Indices.{distinct_nearest, index_sound, index_complete, number_not_id as number_no_id}
 use Rattle.wm_bodies.proofs.NamedUses.{UseEnds, uses_are_written, uses_are_read}
 use Rattle.wm_bodies.proofs.PieceLaws.{piece_named, piece_sound}
-use Rattle.wm_bodies.proofs.Readers.{Sound, Complete, Any, Both, BeginsClose, bind_ok, bind_is, is_same, same_is, made_is, made_sound, paren_complete, paren_sound, then_complete, then_sound}
+use Rattle.wm_bodies.proofs.Readers.{Sound, Complete, Any, Both, BeginsClose, bind_ok, bind_is, open_found, close_found, is_same, same_is, made_is, made_sound, paren_complete, paren_sound, then_complete, then_sound}
 use Rattle.wm_bodies.proofs.TypeUseLaws.{KnowsTypes, call_sound}
 
 -- ---- a form whose word says what it holds
@@ -186,53 +186,132 @@ module _ (p : Profile) (names : Names) where
   class_piece w class.Float t c rest n e = absurd cc
   class_piece w class.None t c rest n e = absurd cc
 
+  -- the instruction of a constant of the profile
+  abbrev OfInstruction : Const → Form Token
+  OfInstruction c k = WritesSimple (scope_with names) [] (constant c) k × HasConst p c
+
+  instruction_sound : Sound (instruction_at p names) OfInstruction
+  instruction_sound [] c rest e = absurd cc
+  instruction_sound (open_paren ∷ k) c rest e = absurd cc
+  instruction_sound (close_paren ∷ k) c rest e = absurd cc
+  instruction_sound (string b ∷ k) c rest e = absurd cc
+  instruction_sound (atom w ∷ k) c rest e =
+      let g = piece_sound (call_use_at p names) (scope_with names) (call_sound p names) p [] w k (plain (constant c)) rest (class_piece w (class_named p w) k c rest refl e) in
+      (atom w ∷ g.0, ap (λ (z : List Token). atom w ∷ z) g.1, (g.2.0, g.2.1))
+
+  const_word : (c : Const) (t : List Token) → HasConst p c → instruction_at p names (atom (opcode (constant c)).1 ∷ t) ≡ const_class names (class_of (op.Simple (constant c))) t
+  const_word c t of = ap (λ (o : OpClass). const_class names o t) (piece_named p (plain (constant c)) of)
+
+  instruction_complete : HasDistinct names → Complete (instruction_at p names) OfInstruction Any
+  instruction_complete d (const.I32 n) front rest ((a, b, e, w, h), of) f =
+      ap (λ (z : List Token). instruction_at p names (z ++ rest)) (e ∙ ap (λ (z : List Token). z ++ b) w) ∙ const_word (const.I32 n) (b ++ rest) of
+      ∙ made_is const.I32 (atom_at (integer_of 32) (b ++ rest)) n rest (integer_complete 32 n b rest h tt)
+  instruction_complete d (const.I64 n) front rest ((a, b, e, w, h), of) f =
+      ap (λ (z : List Token). instruction_at p names (z ++ rest)) (e ∙ ap (λ (z : List Token). z ++ b) w) ∙ const_word (const.I64 n) (b ++ rest) of
+      ∙ made_is const.I64 (atom_at (integer_of 64) (b ++ rest)) n rest (integer_complete 64 n b rest h tt)
+  instruction_complete d (const.F32 n) front rest ((a, b, e, w, h), of) f =
+      ap (λ (z : List Token). instruction_at p names (z ++ rest)) (e ∙ ap (λ (z : List Token). z ++ b) w) ∙ const_word (const.F32 n) (b ++ rest) of
+      ∙ made_is const.F32 (atom_at (float_of float.F32) (b ++ rest)) n rest (float_complete float.F32 n b rest h tt)
+  instruction_complete d (const.F64 n) front rest ((a, b, e, w, h), of) f =
+      ap (λ (z : List Token). instruction_at p names (z ++ rest)) (e ∙ ap (λ (z : List Token). z ++ b) w) ∙ const_word (const.F64 n) (b ++ rest) of
+      ∙ made_is const.F64 (atom_at (float_of float.F64) (b ++ rest)) n rest (float_complete float.F64 n b rest h tt)
+  instruction_complete d (const.Global x) front rest ((a, b, e, w, h), of) f =
+      ap (λ (z : List Token). instruction_at p names (z ++ rest)) (e ∙ ap (λ (z : List Token). z ++ b) w) ∙ const_word (const.Global x) (b ++ rest) of
+      ∙ made_is const.Global (atom_at (index_of names.globals) (b ++ rest)) x rest (index_complete names.globals d.globals x b rest h tt)
+
+  -- ---- constants and offsets, without parentheses or within them
+
+  abbrev OfFolded : Const → Form Token
+  OfFolded c k = WritesFolded names c k × HasConst p c
+
+  folded_from : (c : Const) (f : List Token) → OfInstruction c f → OfFolded c (open_paren ∷ (f ++ close_paren ∷ []))
+  folded_from c f ((a, b, e, w, h), of) = (
+    (
+      open_paren ∷ a,
+      b ++ close_paren ∷ [],
+      ap (λ (z : List Token). open_paren ∷ z) (ap (λ (z : List Token). z ++ close_paren ∷ []) e ∙ append_assoc a b (close_paren ∷ [])),
+      ap (λ (z : List Token). open_paren ∷ z) w,
+      (b, close_paren ∷ [], refl, h, refl),
+    ),
+    of,
+  )
+
+  folded_to : (c : Const) (f : List Token) → OfFolded c f → (g : List Token) × (f ≡ open_paren ∷ (g ++ close_paren ∷ [])) × OfInstruction c g
+  folded_to c f ((a, b, e, w, (x, y, e2, h, l)), of) = (
+    atom (opcode (constant c)).1 ∷ x,
+    e ∙ ap (λ (z : List Token). z ++ b) w ∙ ap (λ (z : List Token). open_paren ∷ atom (opcode (constant c)).1 ∷ z) (e2 ∙ ap (λ (z : List Token). x ++ z) l),
+    ((atom (opcode (constant c)).1 ∷ [], x, refl, refl, h), of),
+  )
+
+  folded_sound : Sound (folded_at p names) OfFolded
+  folded_sound k c rest e =
+      let o = bind_ok (open_at k) _ (c, rest) e in
+      let x = bind_ok (instruction_at p names o.0.1) _ (c, rest) o.2 in
+      let d = bind_ok (close_at x.0.1) _ (c, rest) x.2 in
+      let is : ◌≡◌ {A = Const × List Token} (x.0.0, d.0.1) (c, rest) = same_some (x.0.0, d.0.1) (c, rest) d.2 in
+      let one = instruction_sound o.0.1 x.0.0 x.0.1 x.1 in
+      let text : k ≡ open_paren ∷ (one.0 ++ close_paren ∷ d.0.1) =
+      open_found k o.0 o.1 ∙ ap (λ (z : List Token). open_paren ∷ z) (one.1 ∙ ap (λ (z : List Token). one.0 ++ z) (close_found x.0.1 d.0 d.1)) in
+      let whole : k ≡ (open_paren ∷ (one.0 ++ close_paren ∷ [])) ++ d.0.1 = text ∙ ap (λ (z : List Token). open_paren ∷ z) (sym (append_assoc one.0 (close_paren ∷ []) d.0.1)) in (
+        open_paren ∷ (one.0 ++ close_paren ∷ []),
+        whole ∙ ap (λ (z : Const × List Token). (open_paren ∷ (one.0 ++ close_paren ∷ [])) ++ z.1) is,
+        subst (λ (z : Const × List Token). OfFolded z.0 (open_paren ∷ (one.0 ++ close_paren ∷ []))) is (folded_from x.0.0 one.0 one.2),
+      )
+
+  folded_complete : HasDistinct names → Complete (folded_at p names) OfFolded Any
+  folded_complete d c front rest h any =
+      let g = folded_to c front h in
+      ap (λ (z : List Token). folded_at p names (z ++ rest)) g.1 ∙ ap (λ (z : List Token). folded_at p names (open_paren ∷ z)) (append_assoc g.0 (close_paren ∷ []) rest)
+      ∙ bind_is (instruction_at p names (g.0 ++ close_paren ∷ rest)) _ (c, close_paren ∷ rest) (instruction_complete d c g.0 (close_paren ∷ rest) g.2 tt)
+
   -- a constant of the profile
   abbrev pub OfConst : Const → Form Token
   OfConst c k = WritesConst names c k × HasConst p c
 
   pub const_sound : Sound (const_at p names) OfConst
-  const_sound [] c rest e = absurd cc
-  const_sound (open_paren ∷ k) c rest e = absurd cc
-  const_sound (close_paren ∷ k) c rest e = absurd cc
-  const_sound (string b ∷ k) c rest e = absurd cc
-  const_sound (atom w ∷ k) c rest e =
-      let g = piece_sound (call_use_at p names) (scope_with names) (call_sound p names) p [] w k (plain (constant c)) rest (class_piece w (class_named p w) k c rest refl e) in
-      (atom w ∷ g.0, ap (λ (z : List Token). atom w ∷ z) g.1, (g.2.0, g.2.1))
-
-  const_word : (c : Const) (t : List Token) → HasConst p c → const_at p names (atom (opcode (constant c)).1 ∷ t) ≡ const_class names (class_of (op.Simple (constant c))) t
-  const_word c t of = ap (λ (o : OpClass). const_class names o t) (piece_named p (plain (constant c)) of)
+  const_sound k c rest e = elim (chosen (begins_open k) (folded_at p names k) (instruction_at p names k) (Some (c, rest)) e) [
+    | inl t ↦ (let g = folded_sound k c rest t.1 in (g.0, g.1, (inr g.2.0, g.2.1)))
+    | inr t ↦ (let g = instruction_sound k c rest t.1 in (g.0, g.1, (inl g.2.0, g.2.1)))
+  ]
 
   pub const_complete : HasDistinct names → Complete (const_at p names) OfConst Any
-  const_complete d (const.I32 n) front rest ((a, b, e, w, h), of) f =
-      ap (λ (z : List Token). const_at p names (z ++ rest)) (e ∙ ap (λ (z : List Token). z ++ b) w) ∙ const_word (const.I32 n) (b ++ rest) of
-      ∙ made_is const.I32 (atom_at (integer_of 32) (b ++ rest)) n rest (integer_complete 32 n b rest h tt)
-  const_complete d (const.I64 n) front rest ((a, b, e, w, h), of) f =
-      ap (λ (z : List Token). const_at p names (z ++ rest)) (e ∙ ap (λ (z : List Token). z ++ b) w) ∙ const_word (const.I64 n) (b ++ rest) of
-      ∙ made_is const.I64 (atom_at (integer_of 64) (b ++ rest)) n rest (integer_complete 64 n b rest h tt)
-  const_complete d (const.F32 n) front rest ((a, b, e, w, h), of) f =
-      ap (λ (z : List Token). const_at p names (z ++ rest)) (e ∙ ap (λ (z : List Token). z ++ b) w) ∙ const_word (const.F32 n) (b ++ rest) of
-      ∙ made_is const.F32 (atom_at (float_of float.F32) (b ++ rest)) n rest (float_complete float.F32 n b rest h tt)
-  const_complete d (const.F64 n) front rest ((a, b, e, w, h), of) f =
-      ap (λ (z : List Token). const_at p names (z ++ rest)) (e ∙ ap (λ (z : List Token). z ++ b) w) ∙ const_word (const.F64 n) (b ++ rest) of
-      ∙ made_is const.F64 (atom_at (float_of float.F64) (b ++ rest)) n rest (float_complete float.F64 n b rest h tt)
-  const_complete d (const.Global x) front rest ((a, b, e, w, h), of) f =
-      ap (λ (z : List Token). const_at p names (z ++ rest)) (e ∙ ap (λ (z : List Token). z ++ b) w) ∙ const_word (const.Global x) (b ++ rest) of
-      ∙ made_is const.Global (atom_at (index_of names.globals) (b ++ rest)) x rest (index_complete names.globals d.globals x b rest h tt)
+  const_complete d c front rest (inl (a, b, e, w, h), of) any =
+      cond-false (begins_open (front ++ rest)) _ _ (ap (λ (z : List Token). begins_open (z ++ rest)) (e ∙ ap (λ (z : List Token). z ++ b) w))
+      ∙ instruction_complete d c front rest ((a, b, e, w, h), of) tt
+  const_complete d c front rest (inr h, of) any =
+      cond-true (begins_open (front ++ rest)) _ _ (ap (λ (z : List Token). begins_open (z ++ rest)) (folded_to c front (h, of)).1) ∙ folded_complete d c front rest (h, of) tt
 
   abbrev pub OfOffset : Const → Form Token
   OfOffset c k = WritesOffset names c k × HasConst p c
 
   pub offset_sound : Sound (offset_at p names) OfOffset
-  offset_sound k c rest e =
-      let g = paren_sound (codes "offset") (const_at p names) OfConst const_sound k c rest e in
-      (g.0, g.1, by g.0 g.2)
+  offset_sound k c rest e = elim (chosen (begins_group (codes "offset") k) _ (folded_at p names k) (Some (c, rest)) e) [
+    | inl t ↦ (let g = paren_sound (codes "offset") (const_at p names) OfConst const_sound k c rest t.1 in (g.0, g.1, by g.0 g.2))
+    | inr t ↦ (let g = folded_sound k c rest t.1 in (g.0, g.1, (inr g.2.0, g.2.1)))
+  ]
     where
       by : (front : List Token) → Paren (codes "offset") (OfConst c) front → OfOffset c front
-      by front (a, b, e, w, (x, y, e2, h, l)) = ((a, b, e, w, (x, y, e2, h.0, l)), h.1)
+      by front (a, b, e, w, (x, y, e2, h, l)) = (inl (a, b, e, w, (x, y, e2, h.0, l)), h.1)
+
+  no_offset_word : (c : Const) → same_bytes (opcode (constant c)).1 (codes "offset") ≡ false
+  no_offset_word (const.I32 n) = refl
+  no_offset_word (const.I64 n) = refl
+  no_offset_word (const.F32 n) = refl
+  no_offset_word (const.F64 n) = refl
+  no_offset_word (const.Global x) = refl
 
   pub offset_complete : HasDistinct names → Complete (offset_at p names) OfOffset Any
-  offset_complete d c front rest ((a, b, e, w, (x, y, e2, h, l)), of) any =
-      paren_complete (codes "offset") (const_at p names) OfConst (λ c f r h i. const_complete d c f r h tt) c front rest (a, b, e, w, (x, y, e2, (h, of), l)) tt
+  offset_complete d c front rest (inl (a, b, e, w, (x, y, e2, h, l)), of) any =
+      cond-true (begins_group (codes "offset") (front ++ rest)) _ _ (ap (λ (z : List Token). begins_group (codes "offset") (z ++ rest)) (e ∙ ap (λ (z : List Token). z ++ b) w))
+      ∙ paren_complete (codes "offset") (const_at p names) OfConst (λ c f r h i. const_complete d c f r h tt) c front rest (a, b, e, w, (x, y, e2, (h, of), l)) tt
+  offset_complete d c front rest (inr (a, b, e, w, h), of) any =
+      cond-false (begins_group (codes "offset") (front ++ rest)) _ _
+      (ap (λ (z : List Token). begins_group (codes "offset") (z ++ rest)) (e ∙ ap (λ (z : List Token). z ++ b) w) ∙ no_offset_word c)
+      ∙ folded_complete d c front rest ((a, b, e, w, h), of) tt
+
+  pub offset_opens : (c : Const) (front rest : List Token) → OfOffset c front → begins_open (front ++ rest) ≡ true
+  offset_opens c front rest (inl (a, b, e, w, h), of) = ap (λ (z : List Token). begins_open (z ++ rest)) (e ∙ ap (λ (z : List Token). z ++ b) w)
+  offset_opens c front rest (inr (a, b, e, w, h), of) = ap (λ (z : List Token). begins_open (z ++ rest)) (e ∙ ap (λ (z : List Token). z ++ b) w)
 
 -- ---- import descriptors
 

@@ -2,6 +2,7 @@ pub mod Frames
 pub mod FieldTypes
 pub mod DistinctIds
 pub mod FieldParts
+pub mod SegmentParts
 pub mod FunctionLaws
 pub mod FieldLaws
 pub mod FieldCode

@@ -2,7 +2,7 @@
 -- lists are joined or put in parentheses.
 use Rattle.std.proofs.Common.{◌≡◌, ℕ, Bool, true, false, List, [], ◌∷◌, ◌++◌, Option, Some, None, refl, sym, ap, subst, ◌∙◌, inl, inr}
 use Rattle.std.specs.Prelude.{◌^◌, ℤ, IsTrue, codes, map}
-use Rattle.wm_syntax.specs.Spelling.{Form, Exactly, Each, ◌▸◌}
+use Rattle.wm_syntax.specs.Spelling.{Form, Exactly, Each, ◌▸◌, ◌∣◌}
 use Rattle.wm_syntax.specs.declared.types.ValType.{ValType}
 use Rattle.wm_syntax.specs.declared.types.ValType.TheVariants as val
 use Rattle.wm_syntax.specs.declared.types.Const.{Const}
@@ -21,8 +21,8 @@ use Rattle.wm_syntax.specs.Profiles.{has, HasSimple, HasConst, HasInstruction, H
 use Rattle.wm_tokens.specs.Tokens.{Token, open_paren, close_paren, string, atom, IsIdentifier, IsInteger, IsNumber, IsUnsigned}
 use Rattle.wm_tokens.specs.Identifiers.{Id, Ids, One, IsIndex, IsLabel, WritesId, Resolves, ResolvesLabel}
 use Rattle.wm_syntax.specs.Types.{type_text}
-use Rattle.wm_tokens.specs.Written.{Keyword, Paren, UnsignedNumber, WritesType, Named, WritesGroup, WritesGroups, WritesUnnamed, WritesResults, Names, TypeUse, Scope, WritesKey, WritesAccess, WritesOperand, WritesSimple, WritesBlockType, Closes, WritesElse, Opens, WritesTable, WritesInstruction, WritesInstructions}
-use Rattle.wm_tokens.specs.Fields.{WritesName, WritesMax, WritesLimits, WritesTableType, WritesGlobalType, WritesConst, WritesExport, WritesStrings, WritesOffset}
+use Rattle.wm_tokens.specs.Written.{Keyword, Nothing, Paren, UnsignedNumber, WritesType, Named, WritesGroup, WritesGroups, WritesUnnamed, WritesResults, Names, TypeUse, Scope, WritesKey, WritesAccess, WritesOperand, WritesSimple, WritesBlockType, Closes, WritesElse, Opens, WritesTable, WritesInstruction, WritesInstructions}
+use Rattle.wm_tokens.specs.Fields.{WritesName, WritesMax, WritesLimits, WritesTableType, WritesGlobalType, WritesConst, WritesExport, WritesStrings, WritesOffset, WritesFolded, WritesTarget, WritesFunctions}
 use Rattle.wm_bodies.specs.exact.Reading.{is_word}
 use Rattle.wm_bodies.proofs.PieceLaws.{simple_word}
 
@@ -241,8 +241,14 @@ module _ (B : List Token → Type 0) (A : List ℕ → Type 0) (c : Closed B A) 
   keeps_global_type false t = keeps_type t
   keeps_global_type true t = keeps_paren (codes "mut") refl (WritesType t) (keeps_type t)
 
+  keeps_folded : (names : Names) (x : Const) → HasConst p x → Keeps (WritesFolded names x)
+  keeps_folded names x has =
+      keeps_paren (opcode (constant x)).1 (simple_word (constant x)).0 (WritesOperand (record { names = names; locals = [] }) [] (constant x))
+      (keeps_operand (record { names = names; locals = [] }) [] (constant x) has)
+
   pub keeps_const : (names : Names) (x : Const) → HasConst p x → Keeps (WritesConst names x)
-  keeps_const names x has = keeps_simple (record { names = names; locals = [] }) [] (constant x) has
+  keeps_const names x has f (inl h) = keeps_simple (record { names = names; locals = [] }) [] (constant x) has f h
+  keeps_const names x has f (inr h) = keeps_folded names x has f h
 
   pub keeps_name : (name : List ℕ) → Keeps (WritesName name)
   keeps_name name f (u, e) = subst B (sym e) (c.text name)
@@ -262,19 +268,31 @@ module _ (B : List Token → Type 0) (A : List ℕ → Type 0) (c : Closed B A) 
       by (b ∷ items) = c.join (string b ∷ []) (map string items) (c.text b) (by items)
 
   keeps_offset : (names : Names) (x : Const) → HasConst p x → Keeps (WritesOffset names x)
-  keeps_offset names x has = keeps_paren (codes "offset") refl (WritesConst names x) (keeps_const names x has)
+  keeps_offset names x has f (inl h) = keeps_paren (codes "offset") refl (WritesConst names x) (keeps_const names x has) f h
+  keeps_offset names x has f (inr h) = keeps_folded names x has f h
+
+  keeps_target : (ids : Ids) (x : ℕ) → Keeps (WritesTarget ids x)
+  keeps_target ids x f (inl h) = keeps_index ids x f h
+  keeps_target ids x f (inr (first, own, free, h)) = keeps_id own f h
+
+  keeps_functions : (ids : Ids) (xs : List ℕ) → Keeps (WritesFunctions ids xs)
+  keeps_functions ids xs = keeps_then (Nothing ∣ Keyword (codes "func")) (Each (Resolves ids) xs) word (keeps_each (Resolves ids) (keeps_index ids) xs)
+    where
+      word : Keeps (Nothing ∣ Keyword (codes "func"))
+      word f (inl h) = keeps_nil f h
+      word f (inr h) = keeps_word (codes "func") refl f h
 
   -- The contents of a field that defines no identifier.
   pub keeps_export : (names : Names) (e : Export) → Keeps (WritesName e.name ▸ WritesExport names e.kind e.index)
   keeps_export names e = keeps_then (WritesName e.name) (WritesExport names e.kind e.index) (keeps_name e.name) (keeps_exported names e.kind e.index)
 
-  pub keeps_element : (names : Names) (e : Element) → HasConst p e.offset → Keeps (Resolves names.tables e.table ▸ WritesOffset names e.offset ▸ Each (Resolves names.functions) e.functions)
+  pub keeps_element : (names : Names) (e : Element) → HasConst p e.offset → Keeps (WritesTarget names.tables e.table ▸ WritesOffset names e.offset ▸ WritesFunctions names.functions e.functions)
   keeps_element names e has =
-      keeps_then (Resolves names.tables e.table) (WritesOffset names e.offset ▸ Each (Resolves names.functions) e.functions) (keeps_index names.tables e.table)
-      (keeps_then (WritesOffset names e.offset) (Each (Resolves names.functions) e.functions) (keeps_offset names e.offset has)
-      (keeps_each (Resolves names.functions) (keeps_index names.functions) e.functions))
+      keeps_then (WritesTarget names.tables e.table) (WritesOffset names e.offset ▸ WritesFunctions names.functions e.functions) (keeps_target names.tables e.table)
+      (keeps_then (WritesOffset names e.offset) (WritesFunctions names.functions e.functions) (keeps_offset names e.offset has)
+      (keeps_functions names.functions e.functions))
 
-  pub keeps_segment : (names : Names) (s : Segment) → HasConst p s.offset → Keeps (Resolves names.memories s.memory ▸ WritesOffset names s.offset ▸ WritesStrings s.bytes)
+  pub keeps_segment : (names : Names) (s : Segment) → HasConst p s.offset → Keeps (WritesTarget names.memories s.memory ▸ WritesOffset names s.offset ▸ WritesStrings s.bytes)
   keeps_segment names s has =
-      keeps_then (Resolves names.memories s.memory) (WritesOffset names s.offset ▸ WritesStrings s.bytes) (keeps_index names.memories s.memory)
+      keeps_then (WritesTarget names.memories s.memory) (WritesOffset names s.offset ▸ WritesStrings s.bytes) (keeps_target names.memories s.memory)
       (keeps_then (WritesOffset names s.offset) (WritesStrings s.bytes) (keeps_offset names s.offset has) (keeps_strings s.bytes))

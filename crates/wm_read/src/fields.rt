@@ -17,12 +17,14 @@ use crate::fields::signatures::signature;
 use crate::fields::strings::{bytes, name};
 use crate::fields::types::{global_type, limits, table_type};
 use std::alloc::Global;
-use wm_bodies::identifiers::{Names, Space};
-use wm_bodies::op_immediates::{begins_index, close, id, index, open};
+use wm_bodies::identifiers::{Names, Space, is_new};
+use wm_bodies::literals::is;
+use wm_bodies::op_immediates::{begins_index, begins_open, close, id, index, open};
 use wm_syntax::modules::{Element, Export, Function, GlobalDef, Import, Segment};
 use wm_syntax::profile::Profile;
 use wm_syntax::types::{FuncType, Limits};
 use wm_tokens::faults::TextFault;
+use wm_tokens::lexeme::{Lexeme, next_token};
 
 pub(crate) mod constants;
 pub(crate) mod functions;
@@ -118,6 +120,29 @@ fn indices<'a>(
     Ok((indices, rest))
 }
 
+/// Reads the index of a segment's table or memory (Core spec 6.6.11 and 6.6.12). It is 0 if an offset's parenthesis
+/// comes first, or comes after an identifier that the space lacks. This identifier is the segment's own.
+fn target<'a>(space: &Space, text: &'a [u8]) -> Result<(u32, &'a [u8]), TextFault>
+    ensures { Reads (λ x. (x.0, lexed x.1.now)) result (fields.target_at space.now (lexed text.now)) }
+{
+    let (own, rest) = id(text);
+    if is_new(space, own) && begins_open(rest) {
+        Ok((0, rest))
+    } else {
+        index(space, text)
+    }
+}
+
+/// Returns the text after the keyword `func`, if it comes first.
+fn after_func(text: &[u8]) -> &[u8]
+    ensures { lexed result.now ≡ fields.after_func (lexed text.now) }
+{
+    match next_token(text) {
+        Some((Lexeme::Atom(atom), rest)) if is(atom, b"func") => rest,
+        _ => text,
+    }
+}
+
 /// Reads an element segment: a table's index, an offset and functions. Core spec 6.6.11.
 fn element<'a>(
     alloc: Global,
@@ -128,9 +153,9 @@ fn element<'a>(
     ensures { Reads (λ x. (field_of x.0, lexed x.1.now)) result
         (fields.element_at profile (names_of names.now) (lexed text.now)) }
 {
-    let (table, rest) = index(&names.tables, text)?;
+    let (table, rest) = target(&names.tables, text)?;
     let (offset, rest) = offset(alloc, profile, names, rest)?;
-    let (functions, rest) = indices(alloc, &names.functions, rest)?;
+    let (functions, rest) = indices(alloc, &names.functions, after_func(rest))?;
     let element = Element {
         table,
         offset,
@@ -149,7 +174,7 @@ fn segment<'a>(
     ensures { Reads (λ x. (field_of x.0, lexed x.1.now)) result
         (fields.segment_at profile (names_of names.now) (lexed text.now)) }
 {
-    let (memory, rest) = index(&names.memories, text)?;
+    let (memory, rest) = target(&names.memories, text)?;
     let (offset, rest) = offset(alloc, profile, names, rest)?;
     let (bytes, rest) = bytes(alloc, rest)?;
     let segment = Segment {

@@ -1,8 +1,8 @@
 -- The text of a module: which tokens write it. Core spec 6.6.
 use Rattle.std.specs.Prelude.{◌≡◌, ℕ, ◌<◌, ◌≤◌, ◌^◌, List, [], ◌∷◌, ◌++◌, Bool, true, false, Option, Some}
 use Rattle.std.specs.Prelude.{None, IsUtf8, AllPairs, codes, length, map, filter_map, flat_map, slice_get}
-use Rattle.std.specs.Prelude.{if◌then◌else◌}
-use Rattle.wm_syntax.specs.Spelling.{Form, Each, ◌▸◌}
+use Rattle.std.specs.Prelude.{◌≢◌, if◌then◌else◌}
+use Rattle.wm_syntax.specs.Spelling.{Form, Each, ◌▸◌, ◌∣◌}
 use Rattle.wm_syntax.specs.declared.types.ValType.{ValType}
 use Rattle.wm_syntax.specs.declared.types.Limits.{Limits}
 use Rattle.wm_syntax.specs.declared.types.Const.{Const}
@@ -13,12 +13,13 @@ use Rattle.wm_syntax.specs.declared.modules.ExportKind.TheVariants as kind
 use Rattle.wm_syntax.specs.declared.profile.Profile.{Profile}
 use Rattle.wm_syntax.specs.Types.{Signature}
 use Rattle.wm_syntax.specs.Profiles.{IsOf}
+use Rattle.wm_syntax.specs.Opcodes.{opcode}
 use Rattle.wm_syntax.specs.Modules.{Import, Function, GlobalDef, Export, Element, Segment, Module, constant}
 use Rattle.wm_tokens.specs.Tokens.{Token, string}
-use Rattle.wm_tokens.specs.Identifiers.{Id, AreDistinct, WritesId, Resolves}
+use Rattle.wm_tokens.specs.Identifiers.{Id, Ids, AreDistinct, WritesId, Resolves}
 use Rattle.wm_tokens.specs.Written.{Keyword, Paren, Nothing, UnsignedNumber, WritesType, Named, WritesGroups}
 use Rattle.wm_tokens.specs.Written.{WritesResults, types_of, ids_of, Names, TypeUse, WritesSimple}
-use Rattle.wm_tokens.specs.Written.{WritesInstructions}
+use Rattle.wm_tokens.specs.Written.{WritesInstructions, WritesOperand}
 
 abbrev pub WritesName : List ℕ → Form Token
 WritesName name k = IsUtf8 name × (k ≡ string name ∷ [])
@@ -42,8 +43,15 @@ abbrev pub WritesGlobalType : Bool → ValType → Form Token
 WritesGlobalType false t = WritesType t
 WritesGlobalType true t = Paren (codes "mut") (WritesType t)
 
+-- The instruction of a constant, in parentheses. Core spec 6.5.7.
+abbrev pub WritesFolded : Names → Const → Form Token
+WritesFolded names c =
+    Paren (opcode (constant c)).1 (WritesOperand (record { names = names; locals = [] }) [] (constant c))
+
+-- A constant: its instruction, without parentheses or within them.
 abbrev pub WritesConst : Names → Const → Form Token
-WritesConst names c = WritesSimple (record { names = names; locals = [] }) [] (constant c)
+WritesConst names c =
+    WritesSimple (record { names = names; locals = [] }) [] (constant c) ∣ WritesFolded names c
 
 -- The value of a field, with the identifier that it defines.
 pub data Field : Type 0 where
@@ -87,8 +95,24 @@ abbrev pub WritesStrings : List ℕ → Form Token
 WritesStrings bytes k = (items : List (List ℕ)) × (bytes ≡ flat_map (λ part. part) items)
     × (k ≡ map string items)
 
+-- An offset: `( offset const )`, or an instruction in parentheses. Core spec 6.6.11 and 6.6.12.
 abbrev pub WritesOffset : Names → Const → Form Token
-WritesOffset names c = Paren (codes "offset") (WritesConst names c)
+WritesOffset names c = Paren (codes "offset") (WritesConst names c) ∣ WritesFolded names c
+
+-- No item of the space has this identifier.
+abbrev pub IsNoneOf : Ids → Id → Type 0
+IsNoneOf ids id = (name : List ℕ) (x : ℕ) → id ≡ Some name → slice_get ids x ≢ Some (Some name)
+
+-- The index of a segment's table or memory, given the identifiers of that space. It is 0 if no index is written.
+-- Core spec 6.6.11 and 6.6.12. An identifier that no item of the space has may then be written. It is the
+-- segment's own, as later versions of the standard allow, and means nothing here.
+abbrev pub WritesTarget : Ids → ℕ → Form Token
+WritesTarget ids x = Resolves ids x ∣ (λ k. (x ≡ 0) × (own : Id) × IsNoneOf ids own × WritesId own k)
+
+-- The functions of an element segment. The keyword `func` may come before them, as later versions of the
+-- standard allow.
+abbrev pub WritesFunctions : Ids → List ℕ → Form Token
+WritesFunctions ids xs = (Nothing ∣ Keyword (codes "func")) ▸ Each (Resolves ids) xs
 
 abbrev pub WritesField : Names → Field → Form Token
 WritesField names (type_field id f) = Paren (codes "type") (WritesId id ▸ WritesSignature f)
@@ -104,10 +128,10 @@ WritesField names (export_field e) =
 WritesField names (start_field x) = Paren (codes "start") (Resolves names.functions x)
 WritesField names (element_field e) =
     Paren (codes "elem")
-    (Resolves names.tables e.table ▸ WritesOffset names e.offset
-    ▸ Each (Resolves names.functions) e.functions)
+    (WritesTarget names.tables e.table ▸ WritesOffset names e.offset
+    ▸ WritesFunctions names.functions e.functions)
 WritesField names (segment_field s) =
-    Paren (codes "data") (Resolves names.memories s.memory ▸ WritesOffset names s.offset
+    Paren (codes "data") (WritesTarget names.memories s.memory ▸ WritesOffset names s.offset
     ▸ WritesStrings s.bytes)
 
 -- The value of a field, if the field is of this kind.

@@ -1,5 +1,5 @@
 -- The printed text of a field writes it.
-use Rattle.std.proofs.Common.{◌≡◌, ℕ, zero, suc, ◌<◌, ◌^◌, Bool, true, false, List, [], ◌∷◌, ◌++◌, length, map, Option, Some, None, refl, sym, ap, inr, slice_get}
+use Rattle.std.proofs.Common.{◌≡◌, ℕ, zero, suc, ◌<◌, ◌^◌, Bool, true, false, List, [], ◌∷◌, ◌++◌, length, map, Option, Some, None, refl, sym, ap, inl, inr, slice_get}
 use Rattle.std.specs.Prelude.{IfSome, IsUtf8, codes}
 use Rattle.std.specs.List.{AllByRecursion}
 use Rattle.std.proofs.lemmas.List.{append-nil}
@@ -15,11 +15,11 @@ use Rattle.wm_syntax.specs.declared.modules.ExportKind.{ExportKind}
 use Rattle.wm_syntax.specs.declared.modules.ExportKind.TheVariants as kind
 use Rattle.wm_syntax.specs.Modules.{AreLimits, Element, Export, Function, GlobalDef, Import, IsU32, Segment, constant}
 use Rattle.wm_machine.proofs.NameBytes.{utf8_bytes}
-use Rattle.wm_write.specs.Layout.{body_line, body_words, const_words, desc_words, field_line, form, function_name, function_words, gap, global_name, global_type_words, item_words, limits_words, max_words, memory_name, number, offset_words, params_words, places, quoted, results_words, spaced, table_name, table_words, type_name, type_use, type_word, types_words}
+use Rattle.wm_write.specs.Layout.{Word, body_line, body_words, const_words, desc_words, field_line, form, function_name, function_words, gap, global_name, global_type_words, item_words, limits_words, max_words, memory_name, number, offset_words, params_words, places, quoted, results_words, spaced, table_name, table_words, type_name, type_use, type_word, types_words}
 use Rattle.wm_write.specs.Layout as l
-use Rattle.wm_tokens.specs.Identifiers.{Id, Resolves}
+use Rattle.wm_tokens.specs.Identifiers.{Id, Ids, Resolves}
 use Rattle.wm_tokens.specs.Written.{Named, Names, Scope, TypeUse, WritesGroups, WritesResults, WritesType, ids_of, types_of}
-use Rattle.wm_tokens.specs.Fields.{WritesConst, WritesDesc, WritesExport, WritesField, WritesGlobalType, WritesLimits, WritesMax, WritesName, WritesOffset, WritesSignature, WritesTableType, element_field, export_field, function_field, global_field, import_field, memory_field, segment_field, start_field, table_field, type_field}
+use Rattle.wm_tokens.specs.Fields.{WritesConst, WritesDesc, WritesExport, WritesField, WritesFunctions, WritesGlobalType, WritesLimits, WritesMax, WritesName, WritesOffset, WritesSignature, WritesTableType, WritesTarget, element_field, export_field, function_field, global_field, import_field, memory_field, segment_field, start_field, table_field, type_field}
 use Rattle.wm_write.specs.inner.Printed.{tokens}
 use Rattle.wm_write.proofs.PrintedTokens.{IsBreak, IsHead, body_line_breaks, field_line_breaks, gap_breaks}
 use Rattle.wm_write.proofs.PrintedForms.{IsPrefix, Prints, head_is, id_at, prints_as, prints_block, prints_form, prints_id, prints_nothing, prints_number, prints_string, prints_then, prints_type, prints_use, prints_word}
@@ -202,7 +202,7 @@ module _ (names : Names) (c : Counts) (tables memories : ℕ) (h : HasAllNames n
   prints_memory_field i x lt f = prints_form field_line (codes "memory") (memory_name i ∷ limits_words x) field_line_breaks memory_head (prints_then (memory_name i ∷ []) (limits_words x) (prints_id (codes "$mem") i mem_prefix lt) (prints_limits x f))
 
   prints_init : (x : Const) → IsFine c (constant x) → Prints (WritesConst names x) (const_words x)
-  prints_init x f = prints_const (record { names = names; locals = [] }) c h.body x f
+  prints_init x f = prints_as (const_words x) (λ k. inl k) (prints_const (record { names = names; locals = [] }) c h.body x f)
 
   pub prints_global_field : (i : ℕ) (g : GlobalDef) → i < 2 ^ 64 → IsFine c (constant g.init) → Prints (WritesField names (global_field (id_at (codes "$g") i) g)) (l.global_field (i, g))
   prints_global_field i g lt f =
@@ -229,22 +229,28 @@ module _ (names : Names) (c : Counts) (tables memories : ℕ) (h : HasAllNames n
   prints_start x f = prints_form field_line (codes "start") (function_name x ∷ []) field_line_breaks (head_is 115 (codes "tart") refl refl refl) (prints_function_use x f)
 
   prints_offset : (x : Const) → IsFine c (constant x) → Prints (WritesOffset names x) (offset_words x)
-  prints_offset x f = prints_form gap (codes "offset") (const_words x) gap_breaks (head_is 111 (codes "ffset") refl refl refl) (prints_init x f)
+  prints_offset x f = prints_as (offset_words x) (λ k. inl k) (prints_form gap (codes "offset") (const_words x) gap_breaks (head_is 111 (codes "ffset") refl refl refl) (prints_init x f))
 
   functions_used : (xs : List ℕ) → AllByRecursion (λ x. IsU32 x × (x < c.functions)) xs → Prints (Each (Resolves names.functions) xs) (map function_name xs)
   functions_used [] f = prints_nothing
   functions_used (x ∷ xs) f = prints_then (function_name x ∷ []) (map function_name xs) (prints_function_use x f.0) (functions_used xs f.1)
 
+  prints_functions : (xs : List ℕ) → AllByRecursion (λ x. IsU32 x × (x < c.functions)) xs → Prints (WritesFunctions names.functions xs) (map function_name xs)
+  prints_functions xs f = prints_as (map function_name xs) (λ k. ([], tokens (map function_name xs), refl, inl refl, k)) (functions_used xs f)
+
+  prints_target : (ids : Ids) (x : ℕ) (ws : List Word) → Prints (Resolves ids x) ws → Prints (WritesTarget ids x) ws
+  prints_target ids x ws h = prints_as ws (λ k. inl k) h
+
   pub prints_element : (e : Element) → IsU32 e.table × (e.table < tables) × IsFine c (constant e.offset) × AllByRecursion (λ x. IsU32 x × (x < c.functions)) e.functions
       → Prints (WritesField names (element_field e)) (l.element_field e)
   prints_element e f =
       prints_form field_line (codes "elem") (table_name e.table ∷ offset_words e.offset ++ map function_name e.functions) field_line_breaks (head_is 101 (codes "lem") refl refl refl)
-      (prints_then (table_name e.table ∷ []) _ (prints_use (codes "$tab") names.tables e.table tab_prefix f.0 (h.tables e.table f.1))
-      (prints_then (offset_words e.offset) (map function_name e.functions) (prints_offset e.offset f.2) (functions_used e.functions f.3)))
+      (prints_then (table_name e.table ∷ []) _ (prints_target names.tables e.table (table_name e.table ∷ []) (prints_use (codes "$tab") names.tables e.table tab_prefix f.0 (h.tables e.table f.1)))
+      (prints_then (offset_words e.offset) (map function_name e.functions) (prints_offset e.offset f.2) (prints_functions e.functions f.3)))
 
   pub prints_segment : (s : Segment) → IsU32 s.memory × (s.memory < memories) × IsFine c (constant s.offset) × AreBytes s.bytes
       → Prints (WritesField names (segment_field s)) (l.segment_field s)
   prints_segment s f =
       prints_form field_line (codes "data") (memory_name s.memory ∷ offset_words s.offset ++ quoted s.bytes ∷ []) field_line_breaks (head_is 100 (codes "ata") refl refl refl)
-      (prints_then (memory_name s.memory ∷ []) _ (prints_use (codes "$mem") names.memories s.memory mem_prefix f.0 (h.memories s.memory f.1))
+      (prints_then (memory_name s.memory ∷ []) _ (prints_target names.memories s.memory (memory_name s.memory ∷ []) (prints_use (codes "$mem") names.memories s.memory mem_prefix f.0 (h.memories s.memory f.1)))
       (prints_then (offset_words s.offset) (quoted s.bytes ∷ []) (prints_offset s.offset f.2) (prints_as (quoted s.bytes ∷ []) (λ e. (s.bytes ∷ [], sym (append-nil s.bytes), e)) (prints_string s.bytes f.3))))

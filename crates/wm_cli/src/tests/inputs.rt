@@ -42,11 +42,11 @@ wmod build < (module(func)(import
 wmod build < (module(start)(start
 wmod build < (module(func $a)(func $a
 wmod build < (module(data -1))
-wmod build --profile 3 < (module(global f32 f32.const 1e39))
+wmod build --profile 3 < (module(data(f32.const 1e39)))
 wmod build < (module(import"\ff"
 wmod build < (module(data $a))
 wmod build < (module(func(type 0)))
-wmod build < (module(global i32 if))
+wmod build < (module(data(if)))
 wmod build < (module(global f32))
 wmod build < (module(type(func))(func(type 0)i32.load align=0))
 wmod build < (module(type(func))(func(type 0)if end $a))

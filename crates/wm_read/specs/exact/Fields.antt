@@ -17,7 +17,7 @@ use Rattle.wm_syntax.specs.declared.instructions.op_class.OpClass.TheVariants as
 use Rattle.wm_syntax.specs.declared.profile.Profile.{Profile}
 use Rattle.wm_syntax.specs.exact.NameTable.{class_named}
 use Rattle.wm_syntax.specs.Modules.{Function}
-use Rattle.wm_tokens.specs.Tokens.{string, atom}
+use Rattle.wm_tokens.specs.Tokens.{Token, string, atom}
 use Rattle.wm_tokens.specs.Identifiers.{Id, Ids}
 use Rattle.wm_tokens.specs.Written.{Named, Names, types_of, ids_of}
 use Rattle.wm_tokens.specs.Fields.{Field, type_field, import_field, function_field, table_field, memory_field}
@@ -29,7 +29,7 @@ use Rattle.wm_bodies.specs.exact.Reading.{paren_at, many_at, id_at, index_of, is
 use Rattle.wm_read.specs.exact.FieldTypes.{limits_at, table_type_at, global_type_at}
 use Rattle.wm_read.specs.exact.Signatures.{signature_at}
 use Rattle.wm_bodies.specs.exact.NamedUses.{named_use_at}
-use Rattle.wm_bodies.specs.exact.TypeUses.{begins_open, instructions_at, named_at}
+use Rattle.wm_bodies.specs.exact.TypeUses.{begins_group, begins_open, instructions_at, named_at}
 
 -- ---- keywords of fields and descriptors
 
@@ -97,12 +97,33 @@ abbrev pub const_class : Names → OpClass → Reader Const
 const_class names (class.With kind) t = const_kind names kind t
 const_class names _ t = None
 
+abbrev pub instruction_at : Profile → Names → Reader Const
+instruction_at p names (atom w ∷ t) = const_class names (class_named p w) t
+instruction_at p names _ = None
+
+abbrev pub folded_at : Profile → Names → Reader Const
+folded_at p names k = open_at k >>= λ o. instruction_at p names o.1 >>= λ x. close_at x.1 >>= λ c. Some (x.0, c.1)
+
 abbrev pub const_at : Profile → Names → Reader Const
-const_at p names (atom w ∷ t) = const_class names (class_named p w) t
-const_at p names _ = None
+const_at p names k = if begins_open k then folded_at p names k else instruction_at p names k
 
 abbrev pub offset_at : Profile → Names → Reader Const
-offset_at p names = paren_at (codes "offset") (const_at p names)
+offset_at p names k =
+    if begins_group (codes "offset") k then paren_at (codes "offset") (const_at p names) k
+    else folded_at p names k
+
+-- ---- tables, memories and functions of segments
+
+abbrev pub target_at : Ids → Reader ℕ
+target_at ids k =
+    id_at k >>= λ i. if is_new ids i.0 && begins_open i.1 then Some (0, i.1) else atom_at (index_of ids) k
+
+abbrev pub after_func : List Token → List Token
+after_func (atom a ∷ k) = if same_bytes a (codes "func") then k else atom a ∷ k
+after_func k = k
+
+abbrev pub functions_at : Ids → Reader (List ℕ)
+functions_at ids k = labels_at ids (after_func k)
 
 -- ---- descriptors of imports and exports
 
@@ -179,12 +200,12 @@ export_at names t =
 abbrev pub element_at : Profile → Names → Reader Field
 element_at p names t =
     made (λ x. element_field (record { table = x.0; offset = x.1.0; functions = x.1.1 }))
-    (then_at (atom_at (index_of names.tables)) (then_at (offset_at p names) (labels_at names.functions)) t)
+    (then_at (target_at names.tables) (then_at (offset_at p names) (functions_at names.functions)) t)
 
 abbrev pub segment_at : Profile → Names → Reader Field
 segment_at p names t =
     made (λ x. segment_field (record { memory = x.0; offset = x.1.0; bytes = x.1.1 }))
-    (then_at (atom_at (index_of names.memories)) (then_at (offset_at p names) bytes_at) t)
+    (then_at (target_at names.memories) (then_at (offset_at p names) bytes_at) t)
 
 -- The contents of a field: all between its keyword and its closing parenthesis.
 abbrev pub inside_at : Profile → Names → FieldKind → Reader Field

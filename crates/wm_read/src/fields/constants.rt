@@ -1,6 +1,7 @@
-//! Constant expressions (Core spec 3.3.7): one instruction, for a number or the value of a global.
+//! Constant expressions (Core spec 3.3.7): one instruction, for a number or the value of a global. It may be in
+//! parentheses (Core spec 6.5.7).
 
-ghost use Rattle.std.specs.Prelude.{◌≡◌, ◌≢◌, []};
+ghost use Rattle.std.specs.Prelude.{◌≡◌, ◌≢◌, [], codes};
 ghost use Rattle.wm_read.specs.exact.Fields as fields;
 ghost use Rattle.wm_bodies.specs.exact.Reading as reading;
 ghost use Rattle.wm_tokens.specs.exact.Scan.{lexed};
@@ -9,9 +10,12 @@ ghost use Rattle.wm_bodies.specs.inner.Views.{IsRefusal, Reads};
 
 use std::alloc::Global;
 use wm_bodies::identifiers::Names;
+use wm_bodies::literals::is;
 use wm_bodies::op_immediates::{
-    float_32, float_64, index, integer_32, integer_64, no_instruction, open, refuse, with, word,
+    begins_open, float_32, float_64, index, integer_32, integer_64, no_instruction, open, refuse,
+    with, word,
 };
+use wm_bodies::type_uses::begins_group;
 use wm_syntax::instructions::Op;
 use wm_syntax::instructions::op_class::{Immediates, OpClass};
 use wm_syntax::instructions::op_names::op_named;
@@ -20,28 +24,70 @@ use wm_syntax::types::Const;
 use wm_tokens::faults::{TextFault, TextWhy};
 use wm_tokens::lexeme::{Lexeme, next_token};
 
+/// What a constant's instruction comes after. It decides which name a refusal gets.
+#[derive(Clone, Copy)]
+enum Front {
+    /// Another token than an opening parenthesis.
+    Bare,
+    /// An opening parenthesis.
+    Paren,
+    /// The opening parenthesis of an offset, where the keyword `offset` could come too.
+    Offset,
+}
+
+/// Whether an atom is the keyword of a form that is no instruction. No contract: it decides only which name a refusal
+/// gets.
+fn is_form(atom: &[u8]) -> bool {
+    is(atom, b"type")
+        || is(atom, b"param")
+        || is(atom, b"result")
+        || is(atom, b"local")
+        || is(atom, b"import")
+        || is(atom, b"export")
+        || is(atom, b"func")
+        || is(atom, b"mut")
+        || is(atom, b"offset")
+        || is(atom, b"then")
+        || is(atom, b"else")
+}
+
+/// Returns the refusal of an atom that names no instruction of the profile, or is `else` or `end`. The atom is the
+/// first token of `text`.
+fn no_op(profile: Profile, front: Front, atom: &[u8], text: &[u8]) -> TextFault
+    requires { lexed text.now ≢ [] }
+    ensures { IsRefusal result.why }
+{
+    match front {
+        Front::Offset => refuse(TextWhy::Expected, text),
+        Front::Paren if is_form(atom) => refuse(TextWhy::Expected, text),
+        _ => no_instruction(profile, atom, text),
+    }
+}
+
 /// Returns the refusal of an atom that begins no constant. The atom is the first token of `text`.
-fn no_constant(profile: Profile, atom: &[u8], text: &[u8]) -> TextFault
+fn no_constant(profile: Profile, front: Front, atom: &[u8], text: &[u8]) -> TextFault
     requires { lexed text.now ≢ [] }
     ensures { IsRefusal result.why }
 {
     match op_named(profile, atom) {
-        OpClass::Plain(Op::Else) | OpClass::Plain(Op::End) => refuse(TextWhy::UnknownWord, text),
+        OpClass::Plain(Op::Else) | OpClass::Plain(Op::End) | OpClass::None => {
+            no_op(profile, front, atom, text)
+        }
         OpClass::Plain(_) | OpClass::With(_) => refuse(TextWhy::NotConst, text),
         OpClass::Float => refuse(TextWhy::Float, text),
-        OpClass::None => no_instruction(profile, atom, text),
     }
 }
 
 /// Reads the instruction of a constant expression. Fails with `NotConst` for any other instruction of the profile.
-pub fn constant<'a>(
+fn instruction<'a>(
     alloc: Global,
     profile: Profile,
     names: &Names,
+    front: Front,
     text: &'a [u8],
 ) -> Result<(Const, &'a [u8]), TextFault>
     ensures { Reads (λ x. (x.0, lexed x.1.now)) result
-        (fields.const_at profile (names_of names.now) (lexed text.now)) }
+        (fields.instruction_at profile (names_of names.now) (lexed text.now)) }
 {
     match next_token(text) {
         Some((Lexeme::Atom(atom), rest)) => match op_named(profile, atom) {
@@ -52,25 +98,92 @@ pub fn constant<'a>(
             OpClass::With(Immediates::GlobalGet) => {
                 Ok(with(Const::Global, index(&names.globals, rest)?))
             }
-            _ => Err(no_constant(profile, atom, text)),
+            _ => Err(no_constant(profile, front, atom, text)),
         },
         _ => Err(refuse(TextWhy::Expected, text)),
     }
 }
 
-/// Reads the closing parenthesis after a constant. Fails with `NotConst` for a further instruction, and with `Expected`
-/// for a token that is no atom.
+/// Reads `( instruction )` of a constant expression. Core spec 6.5.7.
+fn folded<'a>(
+    alloc: Global,
+    profile: Profile,
+    names: &Names,
+    front: Front,
+    text: &'a [u8],
+) -> Result<(Const, &'a [u8]), TextFault>
+    ensures { Reads (λ x. (x.0, lexed x.1.now)) result
+        (fields.folded_at profile (names_of names.now) (lexed text.now)) }
+{
+    let rest = open(text)?;
+    let (constant, rest) = instruction(alloc, profile, names, front, rest)?;
+    let rest = constant_end(profile, rest)?;
+    Ok((constant, rest))
+}
+
+/// Reads a constant expression: an instruction, without parentheses or within them. Fails at a wrong keyword with
+/// `NotConst` for any other instruction of the profile, with `Expected` for the keyword of a form that is no
+/// instruction if it follows an opening parenthesis, and else with `Float` or `UnknownWord`.
+pub fn constant<'a>(
+    alloc: Global,
+    profile: Profile,
+    names: &Names,
+    text: &'a [u8],
+) -> Result<(Const, &'a [u8]), TextFault>
+    ensures { Reads (λ x. (x.0, lexed x.1.now)) result
+        (fields.const_at profile (names_of names.now) (lexed text.now)) }
+{
+    if begins_open(text) {
+        folded(alloc, profile, names, Front::Paren, text)
+    } else {
+        instruction(alloc, profile, names, Front::Bare, text)
+    }
+}
+
+/// Returns the refusal of an instruction after a constant. It follows an opening parenthesis, and `text` begins at
+/// it.
+fn no_second(profile: Profile, text: &[u8]) -> TextFault
+    ensures { IsRefusal result.why }
+{
+    match next_token(text) {
+        Some((Lexeme::Atom(atom), _)) => no_constant(profile, Front::Paren, atom, text),
+        _ => refuse(TextWhy::Expected, text),
+    }
+}
+
+/// Reads the closing parenthesis after a constant. Fails with `NotConst` for a further instruction, which may be in
+/// parentheses. Fails with `Expected` for a token that is no atom. Such a refusal is at the token after an opening
+/// parenthesis, if there is one.
 pub fn constant_end(profile: Profile, text: &[u8]) -> Result<&[u8], TextFault>
     ensures { Reads (λ r. (tt, lexed r.now)) result (reading.close_at (lexed text.now)) }
 {
     match next_token(text) {
         Some((Lexeme::Close, rest)) => Ok(rest),
-        Some((Lexeme::Atom(atom), _)) => Err(no_constant(profile, atom, text)),
+        Some((Lexeme::Open, inner)) => Err(no_second(profile, inner)),
+        Some((Lexeme::Atom(atom), _)) => Err(no_constant(profile, Front::Bare, atom, text)),
         _ => Err(refuse(TextWhy::Expected, text)),
     }
 }
 
 /// Reads `( offset const )`. Core spec 6.6.11 and 6.6.12.
+fn long_offset<'a>(
+    alloc: Global,
+    profile: Profile,
+    names: &Names,
+    text: &'a [u8],
+) -> Result<(Const, &'a [u8]), TextFault>
+    ensures { Reads (λ x. (x.0, lexed x.1.now)) result
+        (reading.paren_at (codes "offset") (fields.const_at profile (names_of names.now)) (lexed text.now)) }
+{
+    let rest = open(text)?;
+    let rest = word(b"offset", rest)?;
+    let (offset, rest) = constant(alloc, profile, names, rest)?;
+    let rest = constant_end(profile, rest)?;
+    Ok((offset, rest))
+}
+
+/// Reads the offset of a segment: `( offset const )`, or an instruction in parentheses. Core spec 6.6.11 and 6.6.12.
+/// Fails with `Expected` at a keyword that is neither `offset` nor an instruction of the profile.
 pub fn offset<'a>(
     alloc: Global,
     profile: Profile,
@@ -80,9 +193,9 @@ pub fn offset<'a>(
     ensures { Reads (λ x. (x.0, lexed x.1.now)) result
         (fields.offset_at profile (names_of names.now) (lexed text.now)) }
 {
-    let rest = open(text)?;
-    let rest = word(b"offset", rest)?;
-    let (offset, rest) = constant(alloc, profile, names, rest)?;
-    let rest = constant_end(profile, rest)?;
-    Ok((offset, rest))
+    if begins_group(b"offset", text) {
+        long_offset(alloc, profile, names, text)
+    } else {
+        folded(alloc, profile, names, Front::Offset, text)
+    }
 }
