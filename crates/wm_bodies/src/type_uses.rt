@@ -46,7 +46,7 @@ fn value_types<'a>(
 }
 
 /// Whether the first two tokens are `( name`.
-pub fn begins_group(name: &[u8], text: &[u8]) -> bool
+pub(crate) fn begins_group(name: &[u8], text: &[u8]) -> bool
     ensures { result ≡ uses.begins_group name.now (lexed text.now) }
 {
     match next_token(text) {

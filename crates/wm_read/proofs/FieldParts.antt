@@ -34,7 +34,7 @@ use Rattle.wm_bodies.specs.exact.Reading.{Reader, ◌>>=◌, made, open_at, clos
 use Rattle.wm_bodies.specs.exact.TypeUses.{begins_group, begins_open, call_use_at}
 use Rattle.wm_bodies.specs.exact.NamedUses.{named_use_at}
 use Rattle.wm_read.specs.exact.FieldTypes.{limits_at, table_type_at, global_type_at}
-use Rattle.wm_read.specs.exact.Fields.{item_word, with_word, item_named, headed_at, name_at, strings_at, bytes_at, const_kind, const_class, instruction_at, folded_at, const_at, offset_at, desc_kind, desc_at, space_of, item_at}
+use Rattle.wm_read.specs.exact.Fields.{item_word, with_word, item_named, headed_at, name_at, strings_at, bytes_at, const_kind, const_class, instruction_at, paren_const_at, const_at, offset_at, desc_kind, desc_at, space_of, item_at}
 use Rattle.wm_tokens.proofs.Atoms.{magnitude_more}
 use Rattle.wm_tokens.proofs.Basics.{chosen, same_some}
 use Rattle.wm_read.proofs.FieldTypes.{NoNumber, OfGlobalType, limits_sound, limits_complete, table_type_sound, table_type_complete, global_type_sound, global_type_complete}
@@ -243,7 +243,7 @@ module _ (p : Profile) (names : Names) where
     ((atom (opcode (constant c)).1 ∷ [], x, refl, refl, h), of),
   )
 
-  folded_sound : Sound (folded_at p names) OfFolded
+  folded_sound : Sound (paren_const_at p names) OfFolded
   folded_sound k c rest e =
       let o = bind_ok (open_at k) _ (c, rest) e in
       let x = bind_ok (instruction_at p names o.0.1) _ (c, rest) o.2 in
@@ -258,10 +258,10 @@ module _ (p : Profile) (names : Names) where
         subst (λ (z : Const × List Token). OfFolded z.0 (open_paren ∷ (one.0 ++ close_paren ∷ []))) is (folded_from x.0.0 one.0 one.2),
       )
 
-  folded_complete : HasDistinct names → Complete (folded_at p names) OfFolded Any
+  folded_complete : HasDistinct names → Complete (paren_const_at p names) OfFolded Any
   folded_complete d c front rest h any =
       let g = folded_to c front h in
-      ap (λ (z : List Token). folded_at p names (z ++ rest)) g.1 ∙ ap (λ (z : List Token). folded_at p names (open_paren ∷ z)) (append_assoc g.0 (close_paren ∷ []) rest)
+      ap (λ (z : List Token). paren_const_at p names (z ++ rest)) g.1 ∙ ap (λ (z : List Token). paren_const_at p names (open_paren ∷ z)) (append_assoc g.0 (close_paren ∷ []) rest)
       ∙ bind_is (instruction_at p names (g.0 ++ close_paren ∷ rest)) _ (c, close_paren ∷ rest) (instruction_complete d c g.0 (close_paren ∷ rest) g.2 tt)
 
   -- a constant of the profile
@@ -269,7 +269,7 @@ module _ (p : Profile) (names : Names) where
   OfConst c k = WritesConst names c k × HasConst p c
 
   pub const_sound : Sound (const_at p names) OfConst
-  const_sound k c rest e = elim (chosen (begins_open k) (folded_at p names k) (instruction_at p names k) (Some (c, rest)) e) [
+  const_sound k c rest e = elim (chosen (begins_open k) (paren_const_at p names k) (instruction_at p names k) (Some (c, rest)) e) [
     | inl t ↦ (let g = folded_sound k c rest t.1 in (g.0, g.1, (inr g.2.0, g.2.1)))
     | inr t ↦ (let g = instruction_sound k c rest t.1 in (g.0, g.1, (inl g.2.0, g.2.1)))
   ]
@@ -285,7 +285,7 @@ module _ (p : Profile) (names : Names) where
   OfOffset c k = WritesOffset names c k × HasConst p c
 
   pub offset_sound : Sound (offset_at p names) OfOffset
-  offset_sound k c rest e = elim (chosen (begins_group (codes "offset") k) _ (folded_at p names k) (Some (c, rest)) e) [
+  offset_sound k c rest e = elim (chosen (begins_group (codes "offset") k) _ (paren_const_at p names k) (Some (c, rest)) e) [
     | inl t ↦ (let g = paren_sound (codes "offset") (const_at p names) OfConst const_sound k c rest t.1 in (g.0, g.1, by g.0 g.2))
     | inr t ↦ (let g = folded_sound k c rest t.1 in (g.0, g.1, (inr g.2.0, g.2.1)))
   ]

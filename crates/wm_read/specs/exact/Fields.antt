@@ -101,16 +101,24 @@ abbrev pub instruction_at : Profile → Names → Reader Const
 instruction_at p names (atom w ∷ t) = const_class names (class_named p w) t
 instruction_at p names _ = None
 
+-- An instruction and a closing parenthesis.
 abbrev pub folded_at : Profile → Names → Reader Const
-folded_at p names k = open_at k >>= λ o. instruction_at p names o.1 >>= λ x. close_at x.1 >>= λ c. Some (x.0, c.1)
+folded_at p names k = instruction_at p names k >>= λ x. close_at x.1 >>= λ c. Some (x.0, c.1)
+
+abbrev pub paren_const_at : Profile → Names → Reader Const
+paren_const_at p names k = open_at k >>= λ o. folded_at p names o.1
 
 abbrev pub const_at : Profile → Names → Reader Const
-const_at p names k = if begins_open k then folded_at p names k else instruction_at p names k
+const_at p names k = if begins_open k then paren_const_at p names k else instruction_at p names k
+
+-- A constant and a closing parenthesis.
+abbrev pub closed_const_at : Profile → Names → Reader Const
+closed_const_at p names k = const_at p names k >>= λ x. close_at x.1 >>= λ c. Some (x.0, c.1)
 
 abbrev pub offset_at : Profile → Names → Reader Const
 offset_at p names k =
     if begins_group (codes "offset") k then paren_at (codes "offset") (const_at p names) k
-    else folded_at p names k
+    else paren_const_at p names k
 
 -- ---- tables, memories and functions of segments
 

@@ -1,9 +1,10 @@
 //! Constant expressions (Core spec 3.3.7): one instruction, for a number or the value of a global. It may be in
 //! parentheses (Core spec 6.5.7).
 
-ghost use Rattle.std.specs.Prelude.{◌≡◌, ◌≢◌, [], codes};
+ghost use Rattle.std.specs.Prelude.{◌≡◌, ◌≢◌, []};
 ghost use Rattle.wm_read.specs.exact.Fields as fields;
 ghost use Rattle.wm_bodies.specs.exact.Reading as reading;
+ghost use Rattle.wm_syntax.specs.exact.NameTable.{class_named};
 ghost use Rattle.wm_tokens.specs.exact.Scan.{lexed};
 ghost use Rattle.wm_bodies.specs.inner.Blocks.{names_of};
 ghost use Rattle.wm_bodies.specs.inner.Views.{IsRefusal, Reads};
@@ -12,10 +13,8 @@ use std::alloc::Global;
 use wm_bodies::identifiers::Names;
 use wm_bodies::literals::is;
 use wm_bodies::op_immediates::{
-    begins_open, float_32, float_64, index, integer_32, integer_64, no_instruction, open, refuse,
-    with, word,
+    float_32, float_64, index, integer_32, integer_64, no_instruction, open, refuse, with,
 };
-use wm_bodies::type_uses::begins_group;
 use wm_syntax::instructions::Op;
 use wm_syntax::instructions::op_class::{Immediates, OpClass};
 use wm_syntax::instructions::op_names::op_named;
@@ -78,33 +77,34 @@ fn no_constant(profile: Profile, front: Front, atom: &[u8], text: &[u8]) -> Text
     }
 }
 
-/// Reads the instruction of a constant expression. Fails with `NotConst` for any other instruction of the profile.
+/// Reads the instruction of a constant expression, where `here` begins at its keyword `atom` and `text` after it. Fails
+/// with `NotConst` for any other instruction of the profile.
 fn instruction<'a>(
     alloc: Global,
     profile: Profile,
     names: &Names,
     front: Front,
+    atom: &[u8],
+    here: &[u8],
     text: &'a [u8],
 ) -> Result<(Const, &'a [u8]), TextFault>
+    requires { lexed here.now ≢ [] }
     ensures { Reads (λ x. (x.0, lexed x.1.now)) result
-        (fields.instruction_at profile (names_of names.now) (lexed text.now)) }
+        (fields.const_class (names_of names.now) (class_named profile atom.now) (lexed text.now)) }
 {
-    match next_token(text) {
-        Some((Lexeme::Atom(atom), rest)) => match op_named(profile, atom) {
-            OpClass::With(Immediates::I32Const) => Ok(with(Const::I32, integer_32(rest)?)),
-            OpClass::With(Immediates::I64Const) => Ok(with(Const::I64, integer_64(rest)?)),
-            OpClass::With(Immediates::F32Const) => Ok(with(Const::F32, float_32(alloc, rest)?)),
-            OpClass::With(Immediates::F64Const) => Ok(with(Const::F64, float_64(alloc, rest)?)),
-            OpClass::With(Immediates::GlobalGet) => {
-                Ok(with(Const::Global, index(&names.globals, rest)?))
-            }
-            _ => Err(no_constant(profile, front, atom, text)),
-        },
-        _ => Err(refuse(TextWhy::Expected, text)),
+    match op_named(profile, atom) {
+        OpClass::With(Immediates::I32Const) => Ok(with(Const::I32, integer_32(text)?)),
+        OpClass::With(Immediates::I64Const) => Ok(with(Const::I64, integer_64(text)?)),
+        OpClass::With(Immediates::F32Const) => Ok(with(Const::F32, float_32(alloc, text)?)),
+        OpClass::With(Immediates::F64Const) => Ok(with(Const::F64, float_64(alloc, text)?)),
+        OpClass::With(Immediates::GlobalGet) => {
+            Ok(with(Const::Global, index(&names.globals, text)?))
+        }
+        _ => Err(no_constant(profile, front, atom, here)),
     }
 }
 
-/// Reads `( instruction )` of a constant expression. Core spec 6.5.7.
+/// Reads an instruction and a closing parenthesis. An opening one came before. Core spec 6.5.7.
 fn folded<'a>(
     alloc: Global,
     profile: Profile,
@@ -115,10 +115,14 @@ fn folded<'a>(
     ensures { Reads (λ x. (x.0, lexed x.1.now)) result
         (fields.folded_at profile (names_of names.now) (lexed text.now)) }
 {
-    let rest = open(text)?;
-    let (constant, rest) = instruction(alloc, profile, names, front, rest)?;
-    let rest = constant_end(profile, rest)?;
-    Ok((constant, rest))
+    match next_token(text) {
+        Some((Lexeme::Atom(atom), rest)) => {
+            let (constant, rest) = instruction(alloc, profile, names, front, atom, text, rest)?;
+            let rest = constant_end(profile, rest)?;
+            Ok((constant, rest))
+        }
+        _ => Err(refuse(TextWhy::Expected, text)),
+    }
 }
 
 /// Reads a constant expression: an instruction, without parentheses or within them. Fails at a wrong keyword with
@@ -133,10 +137,12 @@ pub fn constant<'a>(
     ensures { Reads (λ x. (x.0, lexed x.1.now)) result
         (fields.const_at profile (names_of names.now) (lexed text.now)) }
 {
-    if begins_open(text) {
-        folded(alloc, profile, names, Front::Paren, text)
-    } else {
-        instruction(alloc, profile, names, Front::Bare, text)
+    match next_token(text) {
+        Some((Lexeme::Open, inner)) => folded(alloc, profile, names, Front::Paren, inner),
+        Some((Lexeme::Atom(atom), rest)) => {
+            instruction(alloc, profile, names, Front::Bare, atom, text, rest)
+        }
+        _ => Err(refuse(TextWhy::Expected, text)),
     }
 }
 
@@ -165,21 +171,19 @@ pub fn constant_end(profile: Profile, text: &[u8]) -> Result<&[u8], TextFault>
     }
 }
 
-/// Reads `( offset const )`. Core spec 6.6.11 and 6.6.12.
-fn long_offset<'a>(
+/// Reads a constant expression and a closing parenthesis.
+fn closed_constant<'a>(
     alloc: Global,
     profile: Profile,
     names: &Names,
     text: &'a [u8],
 ) -> Result<(Const, &'a [u8]), TextFault>
     ensures { Reads (λ x. (x.0, lexed x.1.now)) result
-        (reading.paren_at (codes "offset") (fields.const_at profile (names_of names.now)) (lexed text.now)) }
+        (fields.closed_const_at profile (names_of names.now) (lexed text.now)) }
 {
-    let rest = open(text)?;
-    let rest = word(b"offset", rest)?;
-    let (offset, rest) = constant(alloc, profile, names, rest)?;
+    let (constant, rest) = constant(alloc, profile, names, text)?;
     let rest = constant_end(profile, rest)?;
-    Ok((offset, rest))
+    Ok((constant, rest))
 }
 
 /// Reads the offset of a segment: `( offset const )`, or an instruction in parentheses. Core spec 6.6.11 and 6.6.12.
@@ -193,9 +197,11 @@ pub fn offset<'a>(
     ensures { Reads (λ x. (x.0, lexed x.1.now)) result
         (fields.offset_at profile (names_of names.now) (lexed text.now)) }
 {
-    if begins_group(b"offset", text) {
-        long_offset(alloc, profile, names, text)
-    } else {
-        folded(alloc, profile, names, Front::Offset, text)
+    let inner = open(text)?;
+    match next_token(inner) {
+        Some((Lexeme::Atom(atom), rest)) if is(atom, b"offset") => {
+            closed_constant(alloc, profile, names, rest)
+        }
+        _ => folded(alloc, profile, names, Front::Offset, inner),
     }
 }
