@@ -1,7 +1,7 @@
 -- The parentheses of a field's tokens balance, so skipping ends right after the field.
 use Rattle.std.proofs.Common.{◌≡◌, ℕ, suc, Bool, true, List, [], ◌∷◌, ◌++◌, refl, ap, ◌∙◌, append_assoc}
 use Rattle.std.specs.Prelude.{IsTrue}
-use Rattle.wm_syntax.specs.Spelling.{Form, Each, ◌▸◌}
+use Rattle.wm_syntax.specs.Spelling.{Form, ◌▸◌}
 use Rattle.wm_syntax.specs.declared.types.ValType.{ValType}
 use Rattle.wm_syntax.specs.declared.types.Const.{Const}
 use Rattle.wm_syntax.specs.declared.types.Limits.{Limits}

@@ -1,8 +1,8 @@
 -- The tables, memories and functions of segments are read exactly as tokens write them.
-use Rattle.std.proofs.Common.{◌≡◌, ◌≢◌, ℕ, zero, suc, Bool, true, false, List, [], ◌∷◌, ◌++◌, Option, Some, None, refl, sym, ap, subst, ◌∙◌, inl, inr, append_assoc}
+use Rattle.std.proofs.Common.{◌≡◌, ℕ, zero, suc, Bool, true, false, List, [], ◌∷◌, ◌++◌, Option, Some, None, refl, sym, ap, subst, ◌∙◌, inl, inr, append_assoc}
 use Rattle.std.specs.Prelude.{◌&&◌, codes, is_none, slice_get}
 use Rattle.std.proofs.lemmas.Bool.{cond-true, cond-false, cond_both, and_parts, and_from, and_left, false_from_ne_true}
-use Rattle.wm_syntax.specs.Spelling.{Form, Each, ◌∣◌}
+use Rattle.wm_syntax.specs.Spelling.{Each, ◌∣◌}
 use Rattle.wm_tokens.specs.Tokens.{Token, open_paren, close_paren, string, atom}
 use Rattle.wm_tokens.specs.Identifiers.{Id, Ids, AreDistinct, IsIndex, Resolves}
 use Rattle.wm_tokens.specs.Written.{Keyword, Nothing}
