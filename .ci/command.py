@@ -28,6 +28,17 @@ def rows():
     return [line.split(" = ", 1) for line in lines if not line.startswith("#")]
 
 
+def spelled(word):
+    """The bytes of a word of a row, in which \\n, \\x1b and the like stand for one byte."""
+    return word.encode("ascii").decode("unicode_escape").encode("latin-1")
+
+
+def parts(command):
+    """The words of a row, and what standard input gives."""
+    words = [spelled(word) for word in shlex.split(command)]
+    return (words[:-2], words[-1]) if b"<" in words else (words, TYPED)
+
+
 def escaped(text):
     """Returns the bytes in quotation marks, escaped as in a row."""
     return '"' + "".join(NAMED.get(byte, chr(byte) if 32 <= byte < 127 else f"\\x{byte:02x}") for byte in text) + '"'
@@ -40,12 +51,14 @@ def closed_pipe():
     return write
 
 
-def answer(program, words, folder):
-    """Runs the program with these arguments. Returns its status and outputs in the form of a row."""
-    is_shut = words[0] == "shut"
+def answer(program, command, folder):
+    """Runs the command of a row. Returns its status and outputs in the form of a row."""
+    words, given = parts(command)
+    is_shut = words[0] == b"shut"
     out = closed_pipe() if is_shut else subprocess.PIPE
-    named = [program, *words[is_shut + 1 :]]
-    ran = subprocess.run(named, input=TYPED, stdout=out, stderr=subprocess.PIPE, cwd=folder, timeout=60, check=False)
+    # (the usage in a complaint has the name by which the program is called)
+    named = [b"wmod", *words[is_shut + 1 :]]
+    ran = subprocess.run(named, executable=program, input=given, stdout=out, stderr=subprocess.PIPE, cwd=folder, timeout=60, check=False)
     if is_shut:
         os.close(out)
     return f"{ran.returncode} {escaped(ran.stdout or b'')} {escaped(ran.stderr)}"
@@ -59,7 +72,9 @@ def is_well(program):
             pathlib.Path(folder, name).write_bytes(held)
         played = rows()
         for command, wanted in played:
-            found = answer(program, shlex.split(command), folder)
+            found = answer(program, command, folder)
+            if wanted.startswith("as "):
+                wanted = answer(program, wanted.removeprefix("as "), folder)
             if found != wanted:
                 wrong += 1
                 print(f"command: {command}: {found}", flush=True)

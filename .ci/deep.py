@@ -14,7 +14,7 @@ DEPTH = 1_000_000
 DEEP = bytes.fromhex("0061736D01000000 010401600000 03020100 0AC78DB701 01 C28DB701 00") + b"\x02\x40" * DEPTH + b"\x0b" * (DEPTH + 1)
 FIGURES = f"functions 1\nmoves {2 * DEPTH + 2}\noperands 0\ncontrols {DEPTH + 1}\nprobes 0\n".encode()
 OPEN = b"(module (;" + b"(;" * DEPTH
-OPEN_ANSWER = f"text refused at {len(OPEN)}: OpenComment\n".encode()
+OPEN_ANSWER = f"text refused at {len(OPEN)} (1:{len(OPEN) + 1}): OpenComment\n".encode()
 
 
 def run(program, action, given, stack=STACK):

@@ -466,7 +466,7 @@ def assembled(program, text):
 
 def refused(text, line):
     """Returns the tokens of a refused text, with @ and the refusal's name at its offset."""
-    at, name = re.fullmatch(r"text refused at (\d+): (\w+)", line).groups()
+    at, name = re.fullmatch(r"text refused at (\d+) \(\d+:\d+\): (\w+)", line).groups()
     before, after = (TOKEN.findall(part.decode("utf8", "replace")) for part in (text[: int(at)], text[int(at) :]))
     return " ".join([*before, "@" + name, *after, ""])
 
@@ -510,7 +510,7 @@ def found(classes, words):
 
 def judged(program, text, own, other):
     """Returns the class of a text, in capital letters if it is an error."""
-    if own.line and not re.fullmatch(r"(text|module) refused at \d+: \w+", own.line):
+    if own.line and not re.fullmatch(r"(text refused at \d+ \(\d+:\d+\)|module refused at \d+): \w+", own.line):
         return "NO ANSWER"
     if own.reads and other.reads:
         if own.binary and other.binary and own.binary != other.binary:

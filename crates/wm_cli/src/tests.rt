@@ -64,11 +64,11 @@ wmod show --profile 2 < H 01 05 01 60 00 01 7F 03 02 01 00 0A 08 01 06 00 41 FF 
 wmod show --profile 4 < H 06 09 01 7D 00 43 00 00 00 80 0B = 0 (module\n  (global $g0 f32 f32.const -0x0p+0)\n)\n
 wmod build < (module) = 0 \x00asm\x01\x00\x00\x00
 wmod build < (module (memory $mem0 1) (data $mem0 (offset i32.const 0) "\00\u{e9}\"")) = 0 \x00asm\x01\x00\x00\x00\x05\x03\x01\x00\x01\x0b\n\x01\x00A\x00\x0b\x04\x00\xc3\xa9\"
-wmod build < (module (func (type $a))) = 1 text refused at 20: UnknownId\n
-wmod build < = 1 text refused at 0: Expected\n
+wmod build < (module (func (type $a))) = 1 text refused at 20 (1:21): UnknownId\n
+wmod build < = 1 text refused at 0 (1:1): Expected\n
 wmod build < (module (type (func)) (func (type 0) drop)) = 1 module refused at 24: Arity\n
 wmod build --profile 2 < (module (type (func (result i32))) (func (type 0) i32.const 255 i32.extend8_s)) = 0 \x00asm\x01\x00\x00\x00\x01\x05\x01`\x00\x01\x7f\x03\x02\x01\x00\n\x08\x01\x06\x00A\xff\x01\xc0\x0b
-wmod build < (module (type (func (result i32))) (func (type 0) i32.const 255 i32.extend8_s)) = 1 text refused at 64: UnknownWord\n
+wmod build < (module (type (func (result i32))) (func (type 0) i32.const 255 i32.extend8_s)) = 1 text refused at 64 (1:65): UnknownWord\n
 wmod build --profile 3 < (module (type (func (param f32) (result f64))) (func (type 0) local.get 0 f64.promote_f32)) = 0 \x00asm\x01\x00\x00\x00\x01\x06\x01`\x01}\x01|\x03\x02\x01\x00\n\x07\x01\x05\x00 \x00\xbb\x0b
 wmod build --profile 4 < (module (global f64 f64.const 0)) = 0 \x00asm\x01\x00\x00\x00\x06\r\x01|\x00D\x00\x00\x00\x00\x00\x00\x00\x00\x0b
 wmod build --limit 7 < (module) = 1 refused at 8: TooLong\n
@@ -89,11 +89,11 @@ wmod --max-locals 1 canon < H 01 04 01 60 00 00 03 02 01 00 0A 06 01 04 01 01 7F
 wmod --max-open 0 show < H 01 04 01 60 00 00 03 02 01 00 0A 07 01 05 00 02 40 0B 0B = 1 refused at 25: Deep\n
 wmod --max-open 1 show < H 01 04 01 60 00 00 03 02 01 00 0A 07 01 05 00 02 40 0B 0B = 0 (module\n  (type $t0 (func))\n  (func $f0 (type $t0)\n    block\n    end\n  )\n)\n
 wmod --max-functions 0 build < (module (type (func)) (func (type 0))) = 1 module refused at 18: ManyFunctions\n
-wmod --max-functions 0 build < (module (func (type $a))) = 1 text refused at 20: UnknownId\n
+wmod --max-functions 0 build < (module (func (type $a))) = 1 text refused at 20 (1:21): UnknownId\n
 wmod --max-functions 1 build < (module (type (func)) (func (type 0))) = 0 \x00asm\x01\x00\x00\x00\x01\x04\x01`\x00\x00\x03\x02\x01\x00\n\x04\x01\x02\x00\x0b
-wmod build < (module (type (func (param i32) (result i32))) (func (type 0) get_local 0)) = 1 text refused at 62: UnknownWord\n
+wmod build < (module (type (func (param i32) (result i32))) (func (type 0) get_local 0)) = 1 text refused at 62 (1:63): UnknownWord\n
 wmod --old-words build < (module (type (func (param i32) (result i32))) (func (type 0) get_local 0)) = 0 \x00asm\x01\x00\x00\x00\x01\x06\x01`\x01\x7f\x01\x7f\x03\x02\x01\x00\n\x06\x01\x04\x00 \x00\x0b
-wmod build < (module (table 1 anyfunc)) = 1 text refused at 17: Expected\n
+wmod build < (module (table 1 anyfunc)) = 1 text refused at 17 (1:18): Expected\n
 wmod --old-words build < (module (table 1 anyfunc)) = 0 \x00asm\x01\x00\x00\x00\x04\x04\x01p\x00\x01
 wmod --old-words build < (module (table 1 funcref)) = 0 \x00asm\x01\x00\x00\x00\x04\x04\x01p\x00\x01
 wmod --old-words check < H = words 2"#;
@@ -152,7 +152,7 @@ out 3 wmod show < H = 3 "(mo""#;
 
 /// The number of runs of `INPUTS` in which an end fails: one for each call that an end gets in a run without a fault.
 /// CI prints it.
-const FAILED: &str = "39946 readers and 63372 writers that failed";
+const FAILED: &str = "39946 readers and 64317 writers that failed";
 
 #[test]
 fn readers_and_writers_that_fail(rt: HostRuntime) -> Result<(), Fail> {

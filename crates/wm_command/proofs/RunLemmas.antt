@@ -160,7 +160,7 @@ module_output p q m written status (inr (inr (n, e, s))) = inr (inr (inr (inr e)
 
 pub text_output : (p : Profile) (q : Policy) (s : Spellings) (text written : List ℕ) (status : Status) → TextOut p q s text written status → IsOutput Build written status
 text_output p q s text written status (inl (m, t, out)) = module_output p q m written status out
-text_output p q s text written status (inr (n, (place, why, w, le, tells, e), is)) = inr (inr (inl (place, why, w, e)), is)
+text_output p q s text written status (inr (n, (place, why, w, le, tells, e), is)) = inr (inr (inl (text, place, why, w, e)), is)
 
 -- The output for a text that was read whole is right. The refusal of a text longer than the limit is right too.
 pub right_text : (p : Profile) (limit : ℕ) (q : Policy) (s : Spellings) (all left : Option (List ℕ)) (read written : List ℕ) (status : Status)

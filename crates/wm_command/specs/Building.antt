@@ -41,7 +41,7 @@ TextOut p q s text written status =
     ((m : Module) × IsTextOf p s m text × ModuleOut p q m written status)
     ⊎ (((m : Module) → IsTextOf p s m text → ⊥)
     × ((place : ℕ) × (why : TextWhy) × (why ≢ fault.Memory) × (place ≤ length text)
-    × TellsText p text why place × (written ≡ text_line place why))
+    × TellsText p text why place × (written ≡ text_line text place why))
     × (status ≡ Refused))
 
 -- The output and the status for an input: that for its text if the input is at most `limit` bytes long, and the
@@ -54,6 +54,6 @@ BuildOut p limit q s input written status =
 -- The line of some refusal of a text, or of the module that it writes, other than `Memory`.
 abbrev pub IsBuildRefusal : List ℕ → Type 0
 IsBuildRefusal written =
-    ((place : ℕ) × (why : TextWhy) × (why ≢ fault.Memory) × (written ≡ text_line place why))
+    ((text : List ℕ) × (place : ℕ) × (why : TextWhy) × (why ≢ fault.Memory) × (written ≡ text_line text place why))
     ⊎ ((place : ℕ) × (why : Why) × (why ≢ Memory) × (written ≡ module_line place why))
     ⊎ (written ≡ too_large_line)

@@ -11,11 +11,12 @@ ghost use Rattle.wm_command.specs.declared.arguments.Action.TheVariants as actio
 ghost use Rattle.wm_command.specs.Outcome.{IsOutput, IsRightFor};
 ghost use Rattle.wm_command.specs.Refused.{module_line, text_line, too_large_line};
 ghost use Rattle.wm_write.specs.declared.check_module.CheckFault.TheVariants as check;
-ghost use Rattle.wm_tokens.specs.declared.faults.TextWhy.TheVariants as text;
+ghost use Rattle.wm_tokens.specs.declared.faults.TextWhy.TheVariants as text_fault;
 ghost use Rattle.wm_syntax.specs.Profiles.{IsOf};
 ghost use Rattle.wm_syntax.specs.Values.{value_of};
 
 use crate::answer::answer;
+use crate::position::{Position, locate};
 use crate::run::refuse;
 use crate::status::Status;
 use std::alloc::Global;
@@ -139,7 +140,7 @@ fn convert<W: Dest>(
 {
     match read_text(alloc, profile, spellings, text) {
         Ok(m) => convert_module(alloc, profile, policy, &m, w),
-        Err(refusal) => refuse_text(alloc, refusal, w),
+        Err(refusal) => refuse_text(alloc, text, refusal, w),
     }
 }
 
@@ -168,11 +169,12 @@ fn convert_module<W: Dest>(
     }
 }
 
-/// Writes the refusal of a text. Returns `Memory`, with nothing written, if memory was refused, now or before.
-fn refuse_text<W: Dest>(alloc: Global, refusal: TextRefusal, w: &mut W) -> Status
-    requires { W.has_failed w.old ≡ false }
-    ensures answered { result ≢ Status.Memory → (refusal.why ≢ text.Memory)
-        × IsAnswered (text_line refusal.at refusal.why) Status.Refused
+/// Writes the refusal of this text. Returns `Memory`, with nothing written, if memory was refused, now or before.
+fn refuse_text<W: Dest>(alloc: Global, text: &[u8], refusal: TextRefusal, w: &mut W) -> Status
+    requires open { W.has_failed w.old ≡ false }
+    requires within { refusal.at ≤ length text.now }
+    ensures answered { result ≢ Status.Memory → (refusal.why ≢ text_fault.Memory)
+        × IsAnswered (text_line text.now refusal.at refusal.why) Status.Refused
         (W.contents w.old) (W.contents w.new) (W.has_failed w.new) (W.is_flushed w.new) result }
     ensures memory { result ≡ Status.Memory → w.new ≡ w.old }
     ensures io { (result ≡ Status.Io) ↔ (W.has_failed w.new ≡ true) }
@@ -181,8 +183,14 @@ fn refuse_text<W: Dest>(alloc: Global, refusal: TextRefusal, w: &mut W) -> Statu
         TextWhy::Memory => return Status::Memory,
         why => why,
     };
-    match format!(in alloc; "text refused at {}: {}\n", refusal.at, why.name()) {
-        Ok(text) => answer(w, text.as_bytes(), Status::Refused),
+    let Position { line, column } = locate(text, refusal.at);
+    let said = format!(in alloc;
+        "text refused at {} ({line}:{column}): {}\n",
+        refusal.at,
+        why.name()
+    );
+    match said {
+        Ok(said) => answer(w, said.as_bytes(), Status::Refused),
         Err(_) => Status::Memory,
     }
 }

@@ -10,6 +10,7 @@ pub mod execute;
 pub mod explain;
 pub mod laws;
 pub mod line;
+mod position;
 mod refusals;
 pub mod run;
 pub mod status;

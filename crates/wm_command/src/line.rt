@@ -92,7 +92,8 @@ const ABOUT: &str = "Checks and converts WebAssembly 1.0 modules, reading them o
 
 const ANSWERS: &str =
     "Any other input gives `refused at N: NAME`: N bytes were read when it was decided.\n\
-    `build` prints `text refused at N: NAME` for a wrong text: N is the offset of the deciding token.\n\
+    `build` prints `text refused at N (LINE:COLUMN): NAME` for a wrong text: N is the offset of the deciding\n\
+    token, and LINE and COLUMN are where it begins.\n\
     It prints `module refused at N: NAME` for an invalid module: N counts bytes of its canonical binary.\n\
     `wmod explain NAME` explains a NAME.\n\n\
     A module of 30 bytes may declare 2^32 - 1 locals, which `show` writes as 17 GB of text. For untrusted\n\

@@ -13,7 +13,7 @@ pub returns-in-Err-clause-answered : goal.returns-in-Err-clause-answered
 returns-in-Err-clause-answered g c = λ n.
     let out = c.refuse_text.ensures.answered n in
     let r = c.in-Err.refusal in (
-      text_line r.at r.why,
+      text_line c.args.text.now r.at r.why,
       status.Refused,
       inr (
         (λ m t. c.in-Err.ensures.refused out.0 t.0 m t.1 t.2),
