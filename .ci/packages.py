@@ -38,6 +38,9 @@ COMPLETED = {
     ("check", "--profile", ""): "1 2 3 4",
     ("check", "--profile", "=", ""): "1 2 3 4",
     ("check", "--limit", ""): "",
+    ("explain", "Sta"): "StartType",
+    ("--profile", "3", "explain", "F"): "Float",
+    ("check", "Sta"): "",
     ("check", ""): "",
 }
 

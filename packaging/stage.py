@@ -15,6 +15,8 @@ import texts
 
 TOP = pathlib.Path(__file__).resolve().parent.parent
 HEADER = TOP / "crates/wm_c/include/wmod.h"
+# the lines that `wmod explain` prints, each with its NAME in front
+REFUSALS = TOP / "crates/wm_command/src/refusals.rt"
 PAGES = "share/doc/wmod"
 # the files beside the pages, by their folder there
 BESIDE = {"examples": "examples/*", "samples": "crates/wm_c/samples/*.c"}
@@ -48,6 +50,11 @@ def interface():
     return [re.search(rf"#define WMOD_VERSION_{it} (\d+)", HEADER.read_text(encoding="utf-8"))[1] for it in ("MAJOR", "MINOR")]
 
 
+def names():
+    """Returns the NAMEs that `wmod explain` knows, each once."""
+    return list(dict.fromkeys(re.findall(r"(?m)^    (\w+) \| ", REFUSALS.read_text(encoding="utf-8"))))
+
+
 def one_object(archive, room):
     """Links the library and the kit's allocation functions into one object. It exports only wmod_*, so no name clashes with the host's."""
     heap = pathlib.Path(run("rt", "doc").strip()).parent / "c/liblibc_c.a"
@@ -78,7 +85,7 @@ def libraries(folder, archive):
 def written(program, prefix):
     """Returns the generated files: their texts by their paths."""
     here, version = TOP / "packaging", version_of(program)
-    said = texts.read_help(run(program, "--help"))
+    said = texts.read_help(run(program, "--help"), names())
     man, described = [(here / it).read_text(encoding="utf-8") for it in ("wmod.1.in", "wmod.pc.in")]
     made = {it: make(said) for it, make in COMPLETIONS.items()}
     made["share/man/man1/wmod.1"] = texts.man(man, said, version)

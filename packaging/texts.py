@@ -1,5 +1,5 @@
-"""Makes the manual page and the completions of bash, zsh and fish from `wmod --help`. A line of the help that it cannot parse is an
-error, so that no option is lost when the help changes.
+"""Makes the manual page and the completions of bash, zsh and fish from `wmod --help` and the NAMEs of `wmod explain`. A line of the help
+that it cannot parse is an error, so that no option is lost when the help changes.
 """
 import collections
 import re
@@ -13,15 +13,15 @@ ONLY = re.compile(r"With `(\w+)`: ")
 
 Action = collections.namedtuple("Action", "name says")
 Option = collections.namedtuple("Option", "short name value says values only")
-Help = collections.namedtuple("Help", "about actions options")
+Help = collections.namedtuple("Help", "about actions options names")
 
 
-def read_help(text):
-    """Parses the help: the first paragraph, the actions and the options."""
+def read_help(text, names):
+    """Parses the help: the first paragraph, the actions and the options. `names` are the NAMEs of `wmod explain`."""
     about, actions, _ = text.split("\n\n", 2)
     options = re.search(r"(?ms)^Options:\n(.*?)\n\n", text)[1]
     actions = [Action(**each(ACTION, line)) for line in actions.split("\n")]
-    return Help(about, actions, [option(**each(OPTION, line)) for line in options.split("\n")])
+    return Help(about, actions, [option(**each(OPTION, line)) for line in options.split("\n")], names)
 
 
 def each(form, line):
@@ -85,7 +85,13 @@ _wmod() {
     -*) mapfile -t COMPREPLY < <(compgen -W "$options" -- "$word") ;;
     *)
       # where nothing is offered, bash completes the name of a file
-      if [ -z "$action" ]; then mapfile -t COMPREPLY < <(compgen -W "@WORDS@" -- "$word"); fi ;;
+      if [ -z "$action" ]; then
+        mapfile -t COMPREPLY < <(compgen -W "@WORDS@" -- "$word")
+      elif [ "$action" = explain ]; then
+        # a NAME is no name of a file
+        compopt +o default +o bashdefault
+        mapfile -t COMPREPLY < <(compgen -W "@NAMES@" -- "$word")
+      fi ;;
   esac
 }
 complete -o bashdefault -o default -F _wmod wmod
@@ -101,6 +107,7 @@ def bash(said):
     return filled(BASH, {
         "ACTIONS": " | ".join(actions),
         "WORDS": " ".join(actions),
+        "NAMES": " ".join(said.names),
         "OPTIONS": " ".join(f"--{it.name}" for it in said.options if not it.only),
         "ONLY": "\n".join(f'    {it.only}) options+=" --{it.name}" ;;' for it in said.options if it.only),
         "VALUES": "\n".join([*values, f"    {numbers}) compopt +o default +o bashdefault && return ;;"]),
@@ -122,7 +129,9 @@ options=(
 @OPTIONS@
 )
 @ONLY@
-_arguments $options '1:action:_wmod_actions' '2:file:_files'
+local operand='2:file:_files'
+if (( $words[(I)explain] )); then operand='2:NAME:(@NAMES@)'; fi
+_arguments $options '1:action:_wmod_actions' $operand
 """
 
 
@@ -132,6 +141,7 @@ def zsh(said):
         "ACTIONS": "\n".join("    " + quoted(f"{it.name}:{plain(it.says)}") for it in said.actions),
         "OPTIONS": "\n".join("  " + zsh_option(it) for it in said.options if not it.only),
         "ONLY": "\n".join(only),
+        "NAMES": " ".join(said.names),
     })
 
 
@@ -156,6 +166,7 @@ def fish(said):
     names = " ".join(it.name for it in said.actions)
     lines = ["# made from `wmod --help`"]
     lines += [fish_line("-f", f"-n 'not __fish_seen_subcommand_from {names}'", f"-a {it.name}", says=it.says) for it in said.actions]
+    lines += [fish_line("-f", "-n '__fish_seen_subcommand_from explain'", f"-a '{' '.join(said.names)}'", says="NAME of a refusal")]
     return "\n".join([*lines, *map(fish_option, said.options)]) + "\n"
 
 

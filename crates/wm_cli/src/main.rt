@@ -4,15 +4,18 @@
 use std::process::ExitCode;
 use std::rt::{Env, Files};
 use std::{env, io};
-use wm_command::arguments::LineFault;
+use wm_command::arguments::{LineFault, Request};
 use wm_command::complaint::{complain, complain_of, explain_fault};
 use wm_command::execute::{System, execute};
-use wm_command::explain::{explain, is_asked};
-use wm_command::line::line;
+use wm_command::explain::{explain, help};
+use wm_command::line::request;
 use wm_command::status::{Status, exit_code};
 
+/// std gives no argument that is not UTF-8, and opens no file of such a name.
+const NOT_UTF8: &str = "an argument is not UTF-8: give such a file on standard input, or rename it";
+
 /// Returns the arguments, the first of which is the program's name. Reports a failure on standard error: `Memory` if
-/// memory is refused, and `Words` if the system gives no arguments.
+/// memory is refused, and `Words` if an argument is not UTF-8 or the system gives no arguments.
 fn read_words<R: Env + Eprint + AllocGlobal>(rt: &R) -> Result<Vec<String>, LineFault> {
     let fault = match env::args(rt) {
         Ok(words) => match words.collect(rt.alloc()) {
@@ -20,6 +23,11 @@ fn read_words<R: Env + Eprint + AllocGlobal>(rt: &R) -> Result<Vec<String>, Line
             Err(_) => LineFault::Memory,
         },
         Err(error) if error.kind() == io::ErrorKind::OutOfMemory => LineFault::Memory,
+        Err(error) if error.kind() == io::ErrorKind::InvalidData => {
+            complain(rt, &LineFault::Words);
+            complain(rt, &NOT_UTF8);
+            return Err(LineFault::Words);
+        }
         Err(error) => {
             complain_of(rt, &LineFault::Words, "the arguments", error);
             return Err(LineFault::Words);
@@ -34,11 +42,10 @@ fn obey<R: Env + Files + Input + Print + Eprint + AllocGlobal>(
     rt: &R,
 ) -> Result<Status, LineFault> {
     let words = read_words(rt)?;
-    if is_asked(words.as_slice()) {
-        return explain(rt, words.as_slice());
-    }
-    match line(rt.alloc(), words.as_slice()) {
-        Ok(line) => Ok(execute(rt, &System(rt), &line)),
+    match request(rt.alloc(), words.as_slice()) {
+        Ok(Request::Run(line)) => Ok(execute(rt, &System(rt), &line)),
+        Ok(Request::Explain(name)) => explain(rt, name),
+        Ok(Request::Help) => help(rt),
         Err(fault) => explain_fault(rt, words.as_slice(), fault),
     }
 }

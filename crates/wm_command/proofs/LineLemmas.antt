@@ -11,9 +11,8 @@ use Rattle.clap.proofs.OnLiterals.{clap_on_literals}
 use Rattle.clap.proofs.WalkLemmas.{first_value-rows}
 use Rattle.wm_command.specs.declared.line.WrongWord.{WrongWord}
 use Rattle.wm_command.specs.declared.line.WrongWord.TheVariants as wrong
-use Rattle.wm_command.specs.declared.arguments.Action.{Action}
 use Rattle.wm_command.specs.declared.arguments.Action.TheVariants.{Build}
-use Rattle.wm_command.specs.Lines.{IsLimit, IsMost, IsPolicy, IsProfile, IsWrong, NoneIsWrong, Stands, action_name, wmod, word_of}
+use Rattle.wm_command.specs.Lines.{IsActionWord, IsLimit, IsMost, IsPolicy, IsProfile, IsWrong, NoneIsWrong, Stands, action_name, wmod, word_of}
 use Rattle.wm_rules.specs.declared.policy.Policy.{Policy}
 use Rattle.wm_syntax.specs.declared.profile.Profile.{Profile}
 
@@ -41,6 +40,7 @@ refused a words e is kinds = subst (λ b. HasKind (fault_of b words) e) is (kind
 -- Whether a value is wrong depends only on the value of each argument.
 pub wrong_along : (word other : Text → Option Text) → ((id : Text) → word id ≡ other id) → (w : WrongWord) → IsWrong word w → IsWrong other w
 wrong_along word other same (wrong.Action text) h = (sym (same _) ∙ h.0, h.1)
+wrong_along word other same (wrong.Topic text) h = (sym (same _) ∙ h.0, sym (same _) ∙ h.1, h.2)
 wrong_along word other same (wrong.Profile text) h = (sym (same _) ∙ h.0, h.1)
 wrong_along word other same (wrong.Limit text) h = (sym (same _) ∙ h.0, h.1)
 wrong_along word other same (wrong.MaxFunctions text) h = (sym (same _) ∙ h.0, h.1)
@@ -51,29 +51,26 @@ wrong_along word other same (wrong.OldWords text) h = (sym (same _) ∙ h.0, sym
 pub none_along : (word other : Text → Option Text) → ((id : Text) → word id ≡ other id) → NoneIsWrong word → NoneIsWrong other
 none_along word other same none w h = none w (wrong_along other word (λ id. sym (same id)) w h)
 
--- The value of ACTION, if there is one, names an action.
-abbrev NamesAction : Option Text → Type 0
-NamesAction said = IfSome said (λ text. (a : Action) × (text ≡ action_name a))
-
 -- The value of ACTION, if there is one, is `build`.
 abbrev NamesBuild : Option Text → Type 0
 NamesBuild said = IfSome said (λ text. text ≡ action_name Build)
 
 -- No value is wrong if each one is right.
-pub none_wrong : (word : Text → Option Text) → IfSome (word (codes "ACTION")) (λ text. (a : Action) × (text ≡ action_name a))
+pub none_wrong : (word : Text → Option Text) → IfSome (word (codes "ACTION")) IsActionWord
+    → (word (codes "ACTION") ≡ Some (codes "help") → IfSome (word (codes "FILE")) IsActionWord)
     → ((p : Profile) × IsProfile (word (codes "profile")) p) → ((n : ℕ) × IsLimit (word (codes "limit")) n) → ((q : Policy) × IsPolicy word q)
     → (Stands (word (codes "old-words")) → IfSome (word (codes "ACTION")) (λ text. text ≡ action_name Build)) → NoneIsWrong word
-none_wrong word action profile limit policy flag (wrong.Action w) h =
-    let named : NamesAction (Some w.now) = subst NamesAction h.0 action in h.1 named.0 named.1
-none_wrong word action profile limit policy flag (wrong.Profile w) h = h.1 profile.0 (subst (λ o. IsProfile o profile.0) h.0 profile.1)
-none_wrong word action profile limit policy flag (wrong.Limit w) h = h.1 limit.0 (subst (λ o. IsLimit o limit.0) h.0 limit.1)
-none_wrong word action profile limit policy flag (wrong.MaxFunctions w) h =
+none_wrong word action topic profile limit policy flag (wrong.Action w) h = h.1 (subst (λ o. IfSome o IsActionWord) h.0 action)
+none_wrong word action topic profile limit policy flag (wrong.Topic w) h = h.2 (subst (λ o. IfSome o IsActionWord) h.1 (topic h.0))
+none_wrong word action topic profile limit policy flag (wrong.Profile w) h = h.1 profile.0 (subst (λ o. IsProfile o profile.0) h.0 profile.1)
+none_wrong word action topic profile limit policy flag (wrong.Limit w) h = h.1 limit.0 (subst (λ o. IsLimit o limit.0) h.0 limit.1)
+none_wrong word action topic profile limit policy flag (wrong.MaxFunctions w) h =
     h.1 policy.0.functions (subst (λ o. IsMost o policy.0.functions) h.0 policy.1.functions)
-none_wrong word action profile limit policy flag (wrong.MaxLocals w) h =
+none_wrong word action topic profile limit policy flag (wrong.MaxLocals w) h =
     h.1 policy.0.locals (subst (λ o. IsMost o policy.0.locals) h.0 policy.1.locals)
-none_wrong word action profile limit policy flag (wrong.MaxOpen w) h =
+none_wrong word action topic profile limit policy flag (wrong.MaxOpen w) h =
     h.1 policy.0.depth (subst (λ o. IsMost o policy.0.depth) h.0 policy.1.depth)
-none_wrong word action profile limit policy flag (wrong.OldWords w) h = h.2 (subst NamesBuild h.1 (flag h.0))
+none_wrong word action topic profile limit policy flag (wrong.OldWords w) h = h.2 (subst NamesBuild h.1 (flag h.0))
 
 -- A fault other than out of memory is one of the command's kinds.
 pub faulty : (kinds : Kinds) (e : Error) → HasKind kinds e → kind_of e ≢ kind.OutOfMemory → kinds ≢ []

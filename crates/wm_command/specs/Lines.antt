@@ -1,7 +1,8 @@
--- The command line `wmod ACTION [OPTIONS] [FILE]`, as a simple command of `clap`. Each argument has a value: one
+-- The command line `wmod ACTION [OPTIONS] [FILE]`, as a simple command of `clap`. With `explain` FILE is a NAME, and
+-- with `help` it is a word for ACTION. Each argument has a value: one
 -- text, or none if it is absent.
-use Rattle.std.specs.Prelude.{◌≡◌, ◌≢◌, ◌<◌, ◌≤◌, ◌^◌, ℕ, true, false, List, [], ◌∷◌}
-use Rattle.std.specs.Prelude.{Bool, Option, Some, None, ⊤, codes}
+use Rattle.std.specs.Prelude.{◌≡◌, ◌≢◌, ◌<◌, ◌≤◌, ◌^◌, ◌⊎◌, ℕ, true, List, [], ◌∷◌}
+use Rattle.std.specs.Prelude.{Option, Some, None, IfSome, ⊤, codes}
 use Rattle.std.specs.Prelude.{if◌then◌else◌, option_map}
 use Rattle.std.specs.Str.{bytes_eq}
 use Rattle.std.specs.Str.Parse.{IsNumeral, digits_value}
@@ -18,6 +19,8 @@ use Rattle.wm_read.specs.declared.spellings.Spellings.TheVariants.{Standard, Old
 use Rattle.wm_command.specs.declared.arguments.Action.{Action}
 use Rattle.wm_command.specs.declared.arguments.Action.TheVariants.{Check, Stats, Canon, Show, Build}
 use Rattle.wm_command.specs.declared.arguments.Line.{Line}
+use Rattle.wm_command.specs.declared.arguments.Request.{Request}
+use Rattle.wm_command.specs.declared.arguments.Request.TheVariants as request
 use Rattle.wm_command.specs.declared.line.WrongWord.{WrongWord}
 use Rattle.wm_command.specs.declared.line.WrongWord.TheVariants as wrong
 use Rattle.wm_command.specs.declared.arguments.LineFault.{LineFault}
@@ -69,6 +72,10 @@ action_name Stats = codes "stats"
 action_name Canon = codes "canon"
 action_name Show = codes "show"
 action_name Build = codes "build"
+
+-- ACTION may be this word: it names an action, or is `explain` or `help`.
+abbrev pub IsActionWord : Text → Type 0
+IsActionWord text = ((a : Action) × (text ≡ action_name a)) ⊎ (text ≡ codes "explain") ⊎ (text ≡ codes "help")
 
 -- The value of `--profile` for each profile.
 abbrev pub profile_name : Profile → Text
@@ -130,10 +137,25 @@ path_of (Some name) = if bytes_eq name (codes "-") then None else Some name
 abbrev pub SaysNone : (Text → Option Text) → Type 0
 SaysNone word = (l : Line) → Says word l → ⊥
 
--- The argument has this value, and the value is wrong. For `OldWords`: the flag is present, and ACTION has this
--- value, which is not `build`.
+-- The values ask for this. `explain` asks for the meaning of FILE as a NAME. `help` asks for the help, with or
+-- without a word for ACTION as FILE. Both ignore the values of the options.
+abbrev pub Asks : (Text → Option Text) → Request → Type 0
+Asks word (request.Run l) = Says word l
+Asks word (request.Explain name) = (word (codes "ACTION") ≡ Some (codes "explain"))
+    × (word (codes "FILE") ≡ option_map (λ s. s.now) name)
+Asks word request.Help = (word (codes "ACTION") ≡ Some (codes "help"))
+    × IfSome (word (codes "FILE")) IsActionWord
+
+-- The values ask for nothing.
+abbrev pub AsksNothing : (Text → Option Text) → Type 0
+AsksNothing word = (r : Request) → Asks word r → ⊥
+
+-- The argument has this value, and the value is wrong. For `Topic`: ACTION is `help`, and FILE has this value. For
+-- `OldWords`: the flag is present, and ACTION has this value, which is not `build`.
 abbrev pub IsWrong : (Text → Option Text) → WrongWord → Type 0
-IsWrong word (wrong.Action w) = (word (codes "ACTION") ≡ Some w.now) × ((a : Action) → w.now ≢ action_name a)
+IsWrong word (wrong.Action w) = (word (codes "ACTION") ≡ Some w.now) × (IsActionWord w.now → ⊥)
+IsWrong word (wrong.Topic w) = (word (codes "ACTION") ≡ Some (codes "help"))
+    × (word (codes "FILE") ≡ Some w.now) × (IsActionWord w.now → ⊥)
 IsWrong word (wrong.Profile w) = (word (codes "profile") ≡ Some w.now)
     × ((p : Profile) → w.now ≢ profile_name p)
 IsWrong word (wrong.Limit w) = (word (codes "limit") ≡ Some w.now) × ((n : ℕ) → IsLimit (Some w.now) n → ⊥)
@@ -155,14 +177,9 @@ NoneIsWrong word = (w : WrongWord) → IsWrong word w → ⊥
 abbrev pub word_of : List Text → Text → Option Text
 word_of words id = first_of id (matches_of wmod words)
 
--- Whether the word after the program's name is `explain`. These words are no line: they ask what a NAME means.
-abbrev pub asks_to_explain : List Text → Bool
-asks_to_explain (_ ∷ word ∷ _) = bytes_eq word (codes "explain")
-asks_to_explain _ = false
-
 -- This fault may be reported for these words. `Parser`: `clap` has a fault of this kind for them, or was refused
--- memory. `Words`: `clap` has no fault, and the values describe no line. `Memory` may be reported for any words.
+-- memory. `Words`: `clap` has no fault, and the values ask for nothing. `Memory` may be reported for any words.
 abbrev pub IsFaultOf : List Text → LineFault → Type 0
 IsFaultOf words (fault.Parser e) = HasKind (fault_of wmod words) e
-IsFaultOf words fault.Words = (fault_of wmod words ≡ []) × SaysNone (word_of words)
+IsFaultOf words fault.Words = (fault_of wmod words ≡ []) × AsksNothing (word_of words)
 IsFaultOf words fault.Memory = ⊤

@@ -59,13 +59,24 @@ impl Line {
     }
 }
 
-/// Why the arguments describe no line.
+/// What the arguments ask for.
+#[derive(Debug, Drop)]
+pub enum Request<'a> {
+    /// An action on an input.
+    Run(Line),
+    /// The meaning of this NAME, or `None` if there is no NAME.
+    Explain(Option<&'a str>),
+    /// The help.
+    Help,
+}
+
+/// Why the arguments ask for nothing.
 #[derive(Debug, Drop)]
 pub enum LineFault {
     /// The fault of `clap`, with its text. A request for help or for the version is one too.
     Parser(clap::Error),
     /// An unknown action or profile, a number that is malformed or out of range, or `--old-words` with an
-    /// action other than `build`.
+    /// action other than `build`. Also a NAME of `explain` that is missing or unknown.
     Words,
     /// Memory was refused.
     Memory,

@@ -1,15 +1,14 @@
-//! The action `explain`: `wmod explain NAME` writes what the NAME of a refusal means.
+//! `wmod explain NAME` writes what the NAME of a refusal means, and `wmod help` writes the help.
 
-ghost use Rattle.std.specs.Prelude.{◌≡◌, ◌≢◌, ◌<◌, ◌⊎◌, ℕ, List, Err, IfErr, IfOk, false, length, map};
-ghost use Rattle.std.specs.String.{string_bytes};
+ghost use Rattle.std.specs.Prelude.{◌≡◌, ◌<◌, ◌⊎◌, ℕ, List, [], Err, IfErr, IfOk, IfSome, None, false, length};
 ghost use Rattle.wm_command.specs.Answers.{IsAnswered};
-ghost use Rattle.wm_command.specs.Lines.{asks_to_explain};
 ghost use Rattle.wm_command.specs.declared.status.Status.{Status};
 ghost use Rattle.wm_command.specs.declared.arguments.LineFault.TheVariants.{Memory, Words};
 
 use crate::answer::answer;
 use crate::arguments::LineFault;
-use crate::complaint::{complain, complain_of};
+use crate::complaint::{Escaped, complain, complain_of};
+use crate::line::help_text;
 use crate::refusals::{OF_MODULES, OF_TEXTS};
 use crate::status::Status;
 use crate::witness::Witness;
@@ -62,8 +61,8 @@ impl fmt::Display for Refusal<'_> {
 
 /// Why `explain` has nothing to explain.
 #[derive(Drop)]
-enum Wrong<'a> {
-    /// There is not exactly one NAME.
+pub(crate) enum Wrong<'a> {
+    /// There is not exactly one NAME, or it is empty.
     Count,
     /// No refusal has this NAME. The second text has the nearest ones.
     Name(&'a str, &'a str),
@@ -74,46 +73,64 @@ impl fmt::Display for Wrong<'_> {
         match self {
             Wrong::Count => f.write_str("explain takes one NAME of a refusal, such as Index"),
             Wrong::Name(name, nearest) => {
-                write!(f, "no refusal has the NAME '{name}'; nearest:{nearest}")
+                write!(
+                    f,
+                    "no refusal has the NAME '{}'; nearest:{nearest}",
+                    Escaped(name)
+                )
             }
         }
     }
 }
 
-/// Whether these arguments, the first of which is the program's name, ask for an explanation.
-pub fn is_asked(words: &[String]) -> bool
-    ensures { result ≡ asks_to_explain (map string_bytes words.now) }
-{
-    match words.get(1) {
-        Some(word) => word.as_str() == "explain",
-        None => false,
-    }
-}
-
-/// Writes what a NAME means to standard output. Fails with `Words` if there is not exactly one NAME or no refusal
-/// has it, and with `Memory` if memory is refused. Returns `Ok(Io)` if standard output fails. Each failure is
-/// reported on standard error. No contract of std states what standard output got: see `explain_to`.
+/// Writes what a NAME means to standard output. Fails with `Words` if there is no NAME, it is empty or no refusal has
+/// it, and with `Memory` if memory is refused. Returns `Ok(Io)` if standard output fails. Each failure is reported on
+/// standard error. No contract of std states what standard output got: see `explain_to`.
 pub fn explain<R: Print + Eprint + AllocGlobal>(
     rt: &R,
-    words: &[String],
+    name: Option<&str>,
 ) -> Result<Status, LineFault>
-    ensures count { length words.now ≢ 3 → result ≡ Err Words }
+    ensures missing { name.entry ≡ None → result ≡ Err Words }
+    ensures empty { IfSome name.entry (λ s. s.now ≡ [] → result ≡ Err Words) }
     ensures ok { IfOk result (λ status. (status ≡ Status.Done) ⊎ (status ≡ Status.Io)) }
     ensures fault { IfErr result (λ e. (e ≡ Words) ⊎ (e ≡ Memory)) }
 {
-    let [_, _, name] = words else {
-        return complain_of_words(rt, &Wrong::Count);
+    let name = match name {
+        Some(name) if !name.is_empty() => name,
+        _ => return complain_of_words(rt, &Wrong::Count),
     };
     let mut dest = OutputOf::new(Witness::new(io::writer(rt)));
-    let ended = explain_to(rt, name.as_str(), &mut dest);
+    let ended = explain_to(rt, name, &mut dest);
     if let Ok(Status::Io) = ended {
-        match dest.into_inner().error() {
-            Some(error) => complain_of(rt, &Status::Io, "standard output", error),
-            // a write that accepted no byte is a failure without an error
-            None => complain(rt, &Status::Io),
-        }
+        complain_of_output(rt, dest.into_inner().error());
     }
     ended
+}
+
+/// Writes the help to standard output. Fails with `Memory` if memory is refused. Returns `Ok(Io)` if standard output
+/// fails. Both are reported on standard error. No contract of std states what standard output got.
+pub fn help<R: Print + Eprint + AllocGlobal>(rt: &R) -> Result<Status, LineFault>
+    ensures ok { IfOk result (λ status. (status ≡ Status.Done) ⊎ (status ≡ Status.Io)) }
+    ensures fault { IfErr result (λ e. e ≡ Memory) }
+{
+    let Ok(text) = help_text(rt.alloc()) else {
+        return out_of_memory(rt);
+    };
+    let mut dest = OutputOf::new(Witness::new(io::writer(rt)));
+    let status = answer(&mut dest, text.as_bytes(), Status::Done);
+    if status == Status::Io {
+        complain_of_output(rt, dest.into_inner().error());
+    }
+    Ok(status)
+}
+
+/// Reports that standard output failed, with its error.
+fn complain_of_output<R: Eprint>(rt: &R, error: Option<io::Error>) {
+    match error {
+        Some(error) => complain_of(rt, &Status::Io, "standard output", error),
+        // a write that accepted no byte is a failure without an error
+        None => complain(rt, &Status::Io),
+    }
 }
 
 /// Writes what a NAME means. Fails with `Words` if no refusal has it, and with `Memory` if memory is refused. Both
@@ -157,12 +174,13 @@ fn out_of_memory<R: Eprint>(rt: &R) -> Result<Status, LineFault>
     Err(LineFault::Memory)
 }
 
-/// Returns the explanations of this NAME, as a refusal of a module and of a text. Empty if no refusal has it.
+/// Returns the explanations of this NAME, as a refusal of a module and of a text. ASCII case is ignored. Empty if no
+/// refusal has it.
 fn explained(alloc: Global, name: &str) -> Result<String, AllocError> {
     let mut text = String::new(alloc);
     for line in OF_MODULES.lines().chain(OF_TEXTS.lines()) {
         match Refusal::of(line) {
-            Some(refusal) if refusal.name == name => {
+            Some(refusal) if refusal.name.eq_ignore_ascii_case(name) => {
                 let said = format!(in alloc; "{refusal}")?;
                 text.push_str(said.as_str())?;
             }
@@ -172,7 +190,8 @@ fn explained(alloc: Global, name: &str) -> Result<String, AllocError> {
     Ok(text)
 }
 
-/// Returns the NAMEs that share the longest prefix with this word, each after a space. ASCII case is ignored.
+/// Returns the NAMEs that share the longest prefix with this word, each once and after a space. ASCII case is
+/// ignored.
 fn nearest(alloc: Global, word: &str) -> Result<String, AllocError> {
     let mut names = String::new(alloc);
     let mut longest = 0;
@@ -185,7 +204,7 @@ fn nearest(alloc: Global, word: &str) -> Result<String, AllocError> {
             longest = shared;
             names.clear();
         }
-        if shared == longest {
+        if shared == longest && !names.as_str().split(' ').any(|name| name == refusal.name) {
             names.push(' ')?;
             names.push_str(refusal.name)?;
         }

@@ -1,19 +1,21 @@
-//! Parses the command line, and finds the first argument whose value is wrong.
+//! Parses the command line, and finds the first argument whose value is wrong. Also the text of the help.
 
-ghost use Rattle.std.specs.Prelude.{ℕ, ◌≡◌, ◌≢◌, ◌<◌, ◌≤◌, ◌^◌, ◌⊎◌, [], Option, Some, false, codes, map};
-ghost use Rattle.std.specs.Prelude.{option_map, IfOk, IfErr, IfSome, SomeIff, MatchOption};
+ghost use Rattle.std.specs.Prelude.{ℕ, ◌≡◌, ◌≢◌, ◌<◌, ◌≤◌, ◌^◌, ◌⊎◌, ◌↔◌, [], Option, Some, false, codes, map};
+ghost use Rattle.std.specs.Prelude.{option_map, IfOk, IfErr, IfSome, IsTrue, SomeIff, MatchOption};
 ghost use Rattle.std.specs.Str.Parse.{IsNumeral, digits_value};
 ghost use Rattle.clap.specs.Words.{app_of, fault_of, first_value, found_of, rule_of};
 ghost use Rattle.wm_command.specs.declared.arguments.Action.TheVariants.{Build};
 ghost use Rattle.wm_command.specs.declared.arguments.LineFault.TheVariants.{Memory, Words};
-ghost use Rattle.wm_command.specs.Lines.{IsFaultOf, IsLimit, IsMost, IsPolicy, IsProfile, IsSpellings, IsWrong};
-ghost use Rattle.wm_command.specs.Lines.{NoneIsWrong, Says, SaysNone, Stands, action_name, action_rule, file_rule, flag_rule};
+ghost use Rattle.wm_command.specs.Lines.{Asks, AsksNothing, IsActionWord, IsFaultOf, IsLimit, IsMost, IsPolicy};
+ghost use Rattle.wm_command.specs.Lines.{IsProfile, IsSpellings, IsWrong, NoneIsWrong, Says, SaysNone, Stands};
+ghost use Rattle.wm_command.specs.Lines.{action_name, action_rule, file_rule, flag_rule};
 ghost use Rattle.wm_command.specs.Lines.{option_rule, profile_name, versioned, wmod, word_of};
 ghost use Rattle.wm_read.specs.declared.spellings.Spellings.{Spellings};
 ghost use Rattle.wm_rules.specs.declared.policy.Policy.{Policy};
 ghost use Rattle.wm_syntax.specs.declared.profile.Profile.{Profile};
 
-use crate::arguments::{Action, Line, LineFault};
+use crate::arguments::{Action, Line, LineFault, Request};
+use crate::complaint::Escaped;
 use clap::error::ErrorKind;
 use clap::{Arg, ArgAction, ArgMatches, Command};
 use std::alloc::{AllocError, Global};
@@ -54,7 +56,7 @@ fn most_of(text: &str) -> Option<u32>
     text.parse::<u32>().ok()
 }
 
-/// Returns the action with this name, or `None` if there is none. `explain` is no `Action`.
+/// Returns the action with this name, or `None` if there is none. `explain` and `help` are no `Action`.
 fn action_of(text: &str) -> Option<Action>
     ensures { MatchOption result ((a : Action) → text.now ≢ action_name a) (λ a. text.now ≡ action_name a) }
 {
@@ -65,6 +67,16 @@ fn action_of(text: &str) -> Option<Action>
         "show" => Some(Action::Show),
         "build" => Some(Action::Build),
         _ => None,
+    }
+}
+
+/// Whether ACTION may be this word: the name of an action, `explain` or `help`.
+fn is_action_word(text: &str) -> bool
+    ensures { IsTrue result ↔ IsActionWord text.now }
+{
+    match text {
+        "explain" | "help" => true,
+        _ => action_of(text).is_some(),
     }
 }
 
@@ -258,7 +270,7 @@ fn spellings_by(flag: Option<&str>, action: Action) -> Option<Spellings>
 
 /// Returns the line that the arguments describe. Fails with `Words` if there is none, and with `Memory` if
 /// memory is refused.
-fn read(alloc: Global, matches: &ArgMatches<'_>) -> Result<Line, LineFault>
+fn read_line(alloc: Global, matches: &ArgMatches<'_>) -> Result<Line, LineFault>
     ensures ok { IfOk result (Says (first_value (found_of matches.now))) }
     ensures fault { IfErr result (λ e. ((e ≡ Words) × SaysNone (first_value (found_of matches.now)))
         ⊎ (e ≡ Memory)) }
@@ -292,16 +304,36 @@ fn read(alloc: Global, matches: &ArgMatches<'_>) -> Result<Line, LineFault>
     })
 }
 
+/// Returns what the arguments ask for. Fails with `Words` if they ask for nothing, and with `Memory` if memory is
+/// refused.
+fn read<'a>(alloc: Global, matches: &ArgMatches<'a>) -> Result<Request<'a>, LineFault>
+    ensures ok { IfOk result (Asks (first_value (found_of matches.now))) }
+    ensures fault { IfErr result (λ e. ((e ≡ Words) × AsksNothing (first_value (found_of matches.now)))
+        ⊎ (e ≡ Memory)) }
+{
+    match matches.get_str("ACTION") {
+        Some("explain") => Ok(Request::Explain(matches.get_str("FILE"))),
+        Some("help") => match no_topic(matches) {
+            None => Ok(Request::Help),
+            Some(_) => Err(LineFault::Words),
+        },
+        _ => match read_line(alloc, matches) {
+            Ok(line) => Ok(Request::Run(line)),
+            Err(fault) => Err(fault),
+        },
+    }
+}
+
 /// Parses the arguments, the first of which is the program's name. Fails with `Parser` if `clap` refuses them, or if
-/// they ask for help or the version. Fails with `Words` if a value is wrong. If memory is refused, it fails with
-/// `Memory`, or with `Parser` if `clap` was refused it.
-pub fn line<S: AsStr>(alloc: Global, words: &[S]) -> Result<Line, LineFault>
-    // `clap` accepts the arguments, and they describe this line.
-    ensures ok { IfOk result (λ l. (fault_of wmod (map S.text words.now) ≡ [])
-        × Says (word_of (map S.text words.now)) l) }
-    // Either `clap` has a fault of this kind, or it accepts the arguments and they describe no line, or memory
-    // was refused.
-    ensures fault { IfErr result (IsFaultOf (map S.text words.now)) }
+/// they have the flag for help or for the version. Fails with `Words` if a value is wrong. If memory is refused, it
+/// fails with `Memory`, or with `Parser` if `clap` was refused it.
+pub fn request<'a, S: AsStr>(alloc: Global, words: &'a [S]) -> Result<Request<'a>, LineFault>
+    // `clap` accepts the arguments, and they ask for this.
+    ensures ok { let texts = map S.text words.entry.now in
+        IfOk result (λ r. (fault_of wmod texts ≡ []) × Asks (word_of texts) r) }
+    // Either `clap` has a fault of this kind, or it accepts the arguments and they ask for nothing, or memory was
+    // refused.
+    ensures fault { IfErr result (IsFaultOf (map S.text words.entry.now)) }
 {
     match command(alloc)?.try_get_matches_from(words) {
         Ok(matches) => read(alloc, &matches),
@@ -309,10 +341,17 @@ pub fn line<S: AsStr>(alloc: Global, words: &[S]) -> Result<Line, LineFault>
     }
 }
 
+/// Returns the text of the help. Fails with `AllocError` if memory is refused.
+pub fn help_text(alloc: Global) -> Result<String, AllocError> {
+    command(alloc)?.render_help()
+}
+
 /// An argument whose value is wrong, with that value.
 #[derive(Clone, Copy, PartialEq, Eq, Debug)]
 pub enum WrongWord<'a> {
     Action(&'a str),
+    /// The word after `help`, if it is no word for ACTION.
+    Topic(&'a str),
     Profile(&'a str),
     Limit(&'a str),
     MaxFunctions(&'a str),
@@ -326,7 +365,8 @@ pub enum WrongWord<'a> {
 fn no_number<W: fmt::Write>(f: &mut fmt::Formatter<W>, word: &str, option: &str) -> fmt::Result {
     write!(
         f,
-        "'{word}' is no number for {option}: decimal digits, at most {}",
+        "'{}' is no number for {option}: decimal digits, at most {}",
+        Escaped(word),
         u32::MAX
     )
 }
@@ -334,38 +374,59 @@ fn no_number<W: fmt::Write>(f: &mut fmt::Formatter<W>, word: &str, option: &str)
 impl fmt::Display for WrongWord<'_> {
     fn fmt<W: fmt::Write>(&self, f: &mut fmt::Formatter<W>) -> fmt::Result {
         match self {
-            WrongWord::Action(word) => write!(
+            WrongWord::Action(word) | WrongWord::Topic(word) => write!(
                 f,
-                "'{word}' is no action: check, stats, canon, show, build, or explain alone"
+                "'{}' is no action: check, stats, canon, show, build, or explain alone",
+                Escaped(word)
             ),
-            WrongWord::Profile(word) => write!(f, "'{word}' is no profile: 1, 2, 3, 4"),
-            WrongWord::Limit(word) => {
-                write!(
-                    f,
-                    "'{word}' is no limit: decimal digits, at most {MOST_LIMIT}"
-                )
+            WrongWord::Profile(word) => {
+                write!(f, "'{}' is no profile: 1, 2, 3, 4", Escaped(word))
             }
+            WrongWord::Limit(word) => write!(
+                f,
+                "'{}' is no limit: decimal digits, at most {MOST_LIMIT}",
+                Escaped(word)
+            ),
             WrongWord::MaxFunctions(word) => no_number(f, word, "--max-functions"),
             WrongWord::MaxLocals(word) => no_number(f, word, "--max-locals"),
             WrongWord::MaxOpen(word) => no_number(f, word, "--max-open"),
             WrongWord::OldWords(word) => write!(
                 f,
-                "'{word}' takes no --old-words: only build does"
+                "'{}' takes no --old-words: only build does",
+                Escaped(word)
             ),
         }
     }
 }
 
-/// Returns the value of ACTION if it names no action.
+/// Returns the value of ACTION if it names no action, and is neither `explain` nor `help`.
 fn no_action<'a>(matches: &ArgMatches<'a>) -> Option<&'a str>
     ensures { let word = first_value (found_of matches.now) (codes "ACTION") in
-        MatchOption result (IfSome word (λ text. (a : Action) × (text ≡ action_name a)))
-        (λ text. (word ≡ Some text.now) × ((a : Action) → text.now ≢ action_name a)) }
+        MatchOption result (IfSome word IsActionWord)
+        (λ text. (word ≡ Some text.now) × (IsActionWord text.now → ⊥)) }
 {
     let text = matches.get_str("ACTION")?;
-    match action_of(text) {
-        Some(_) => None,
-        None => Some(text),
+    if is_action_word(text) {
+        None
+    } else {
+        Some(text)
+    }
+}
+
+/// Returns the value of FILE if ACTION is `help`, and FILE is no word for ACTION.
+fn no_topic<'a>(matches: &ArgMatches<'a>) -> Option<&'a str>
+    ensures { let word = first_value (found_of matches.now) in
+        MatchOption result
+        (word (codes "ACTION") ≡ Some (codes "help") → IfSome (word (codes "FILE")) IsActionWord)
+        (λ text. (word (codes "ACTION") ≡ Some (codes "help")) × (word (codes "FILE") ≡ Some text.now)
+        × (IsActionWord text.now → ⊥)) }
+{
+    let action = matches.get_str("ACTION")?;
+    let topic = matches.get_str("FILE")?;
+    if action != "help" || is_action_word(topic) {
+        None
+    } else {
+        Some(topic)
     }
 }
 
@@ -446,7 +507,7 @@ fn wrong_in_policy<'a>(matches: &ArgMatches<'a>) -> Option<WrongWord<'a>>
     None
 }
 
-/// Returns the first wrong value, in the order ACTION, `--profile`, `--limit`, `--max-functions`,
+/// Returns the first wrong value, in the order ACTION, the word after `help`, `--profile`, `--limit`, `--max-functions`,
 /// `--max-locals`, `--max-open`, `--old-words`. Returns `None` if no value is wrong.
 fn wrong_in<'a>(matches: &ArgMatches<'a>) -> Option<WrongWord<'a>>
     ensures { let word = first_value (found_of matches.now) in
@@ -454,6 +515,9 @@ fn wrong_in<'a>(matches: &ArgMatches<'a>) -> Option<WrongWord<'a>>
 {
     if let Some(word) = no_action(matches) {
         return Some(WrongWord::Action(word));
+    }
+    if let Some(word) = no_topic(matches) {
+        return Some(WrongWord::Topic(word));
     }
     if let Some(word) = no_profile(matches) {
         return Some(WrongWord::Profile(word));

@@ -5,7 +5,7 @@ use std::alloc::Global;
 use std::process::Abort;
 use std::test::Fail;
 use wm_command::arguments::LineFault;
-use wm_command::line::line;
+use wm_command::line::request;
 
 /// Rows of arguments with the line that they give, or with the message for the wrong one.
 const LINES: &str = r#"read wmod check = Check One 4294967295 None None None Standard None None
@@ -21,6 +21,17 @@ read wmod build --old-words a.wat = Build One 4294967295 None None None Older So
 read wmod --old-words build --max-locals 0 = Build One 4294967295 None Some(0) None Older None None
 read wmod check --profile 3 = Check Three 4294967295 None None None Standard None None
 read wmod show --profile 4 - = Show Four 4294967295 None None None Standard Some("-") None
+read wmod explain Index = explain Some("Index")
+read wmod --profile 3 explain --limit=7 = explain None
+read wmod help = help
+read wmod help show = help
+read wmod help explain = help
+read wmod --old-words help help = help
+read wmod help Index = words 2
+read wmod Explain Index = words 2
+read wmod explain --help = parser 0
+read wmod explain Index Type = parser 2
+read wmod explain --most = parser 2
 read wmod run = words 2
 read wmod check --profile 0 = words 2
 read wmod check --profile 5 = words 2
@@ -64,6 +75,9 @@ read wmod --help = parser 0
 read wmod --version = parser 0
 read wmod --most = parser 2
 wrong wmod run --limit x = 'run' is no action: check, stats, canon, show, build, or explain alone
+wrong wmod help Run = 'Run' is no action: check, stats, canon, show, build, or explain alone
+wrong wmod help build --limit x = 'x' is no limit: decimal digits, at most 4611686018427387904
+wrong wmod explain run = none
 wrong wmod CHECK = 'CHECK' is no action: check, stats, canon, show, build, or explain alone
 wrong wmod check --limit 0x10 = '0x10' is no limit: decimal digits, at most 4611686018427387904
 wrong wmod check --profile 5 = '5' is no profile: 1, 2, 3, 4
@@ -130,7 +144,7 @@ fn lines(rt: HostRuntime) -> Result<(), Fail> {
 
 /// Expects this text from `clap` for these arguments.
 fn expect_said(rt: &impl Abort, alloc: Global, words: &[&str], wanted: &str) -> Result<(), Fail> {
-    let Err(LineFault::Parser(error)) = line(alloc, words) else {
+    let Err(LineFault::Parser(error)) = request(alloc, words) else {
         assert!(rt; false, "no fault of the parser");
         return Ok(());
     };

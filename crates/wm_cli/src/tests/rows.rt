@@ -1,7 +1,8 @@
 //! Rows: lines with a call and its answer.
 //!
 //! ```text
-//! read WORDS = ACTION PROFILE LIMIT FUNCTIONS LOCALS DEPTH SPELLINGS FILE PATH, or the fault's kind and exit status
+//! read WORDS = ACTION PROFILE LIMIT FUNCTIONS LOCALS DEPTH SPELLINGS FILE PATH, or `explain` and NAME, or `help`, or
+//!     the fault's kind and exit status
 //! wrong WORDS = the message for the first wrong word
 //! wmod WORDS < INPUT = the exit status, and the output
 //! in N WORDS < INPUT = both, if the reader gives N bytes, one a call, and then fails
@@ -25,8 +26,8 @@ use std::test::Fail;
 use wm_bodies::blocks::OpenBlocks;
 use wm_bodies::named::earlier_fault;
 use wm_bodies::pieces::labels;
-use wm_command::arguments::{Action, Line, LineFault};
-use wm_command::line::{line, wrong_word};
+use wm_command::arguments::{Action, Line, LineFault, Request};
+use wm_command::line::{request, wrong_word};
 use wm_command::status::{Status, exit_code};
 use wm_rules::Policy;
 use wm_syntax::profile::Profile;
@@ -83,11 +84,21 @@ fn tell_fault(alloc: Global, fault: &LineFault) -> Result<String, Fail> {
     Ok(format!(in alloc; "{kind} {}", fault.code())?)
 }
 
-/// Returns the line or the fault of a command.
+/// Returns what a command asks for, or its fault.
 fn read(alloc: Global, command: &str) -> Result<String, Fail> {
-    match line(alloc, words_of(alloc, command)?.as_slice()) {
-        Ok(line) => tell_line(alloc, &line),
+    match request(alloc, words_of(alloc, command)?.as_slice()) {
+        Ok(Request::Run(line)) => tell_line(alloc, &line),
+        Ok(Request::Explain(name)) => Ok(format!(in alloc; "explain {name:?}")?),
+        Ok(Request::Help) => Ok(format!(in alloc; "help")?),
         Err(fault) => tell_fault(alloc, &fault),
+    }
+}
+
+/// Returns the line of a command. Fails if the command asks for something else.
+fn line_of(alloc: Global, command: &str) -> Result<Line, Fail> {
+    match request(alloc, words_of(alloc, command)?.as_slice())? {
+        Request::Run(line) => Ok(line),
+        Request::Explain(_) | Request::Help => Err(Fail::new("no line")),
     }
 }
 
@@ -151,8 +162,9 @@ fn is_same_under_more(alloc: Global, line: &Line, input: &[u8], told: &str) -> R
 
 /// Returns the exit status and the output of a command for an input, or the fault of the command.
 pub fn obey(alloc: Global, command: &str, input: &[u8]) -> Result<String, Fail> {
-    let line = match line(alloc, words_of(alloc, command)?.as_slice()) {
-        Ok(line) => line,
+    let line = match request(alloc, words_of(alloc, command)?.as_slice()) {
+        Ok(Request::Run(line)) => line,
+        Ok(Request::Explain(_) | Request::Help) => return Err(Fail::new("no line")),
         Err(fault) => return tell_fault(alloc, &fault),
     };
     let told = obey_line(alloc, &line, input)?;
@@ -164,7 +176,7 @@ pub fn obey(alloc: Global, command: &str, input: &[u8]) -> Result<String, Fail> 
 
 /// Returns the output of a command for an input. Fails if its status is not `Done`.
 fn written(alloc: Global, command: &str, input: &[u8]) -> Result<Vec<u8>, Fail> {
-    let line = line(alloc, words_of(alloc, command)?.as_slice())?;
+    let line = line_of(alloc, command)?;
     let whole = Mode::by(usize::MAX);
     let (answer, _, writer) = follow(&Task::of_line(alloc, &line, input), whole, whole);
     if answer.status == Status::Done {
@@ -213,7 +225,7 @@ fn cut_row(alloc: Global, end: End, row: &str) -> Result<String, Fail> {
         at: passed.parse::<u32>()?.saturating_add(1),
     };
     let (command, input) = parts_of(alloc, call)?;
-    let line = line(alloc, words_of(alloc, command)?.as_slice())?;
+    let line = line_of(alloc, command)?;
     let (answer, _, writer) = follow_failing(&Task::of_line(alloc, &line, &input), end, failing);
     Ok(format!(in alloc;
         "{} \"{}\"",
@@ -276,7 +288,7 @@ pub fn play(rt: &impl Abort, alloc: Global, script: &str) -> Result<(), Fail> {
 /// Whether each function that takes a row's input ends as it must if its reader or its writer fails.
 fn is_row_told(alloc: Global, row: &str, faults: &mut Faults) -> Result<bool, Fail> {
     let (command, input) = parts_of(alloc, row)?;
-    let line = line(alloc, words_of(alloc, command)?.as_slice())?;
+    let line = line_of(alloc, command)?;
     Ok(are_faults_told(alloc, &line, &input, faults))
 }
 
