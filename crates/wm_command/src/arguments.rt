@@ -59,7 +59,7 @@ impl Line {
     }
 }
 
-/// What the arguments ask for.
+/// The request that the arguments make.
 #[derive(Debug, Drop)]
 pub enum Request<'a> {
     /// An action on an input.

@@ -23,7 +23,7 @@ use wm_syntax::types::Const;
 use wm_tokens::faults::{TextFault, TextWhy};
 use wm_tokens::lexeme::{Lexeme, next_token};
 
-/// What a constant's instruction comes after. It decides which name a refusal gets.
+/// The token before a constant's instruction. It decides which name a refusal gets.
 #[derive(Clone, Copy)]
 enum Front {
     /// Another token than an opening parenthesis.
