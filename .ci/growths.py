@@ -83,7 +83,7 @@ def runs_of(program):
     module = bytes_of(MODULES["an if"])
     yield ["show", "--max-functions", "9", "--max-locals", "9", "--max-open", "0"], module
     yield ["check", "--profile", "2", "--limit", "20"], module
-    for words in (["--help"], ["--version"], ["explain", "Index"], ["explain", "Indx"], ["chek"], ["check", "--limit", "x"], ["check", "--lmit", "1"], [], ["check", "/none"]):
+    for words in (["--help"], ["--version"], ["explain", "Index"], ["explain", "Indx"], ["chek"], ["check", "--limit", "x"], ["check", "--lmit", "1"], ["check", "--quux"], [], ["help"], ["explain"], ["check", "/none"]):
         yield words, b""
 
 

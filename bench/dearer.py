@@ -187,8 +187,9 @@ def fed(program, words, given, piece):
     counted = re.search(rb"Collected : (\d+)", told)
     if not counted:
         sys.exit(told.decode())
-    # Lines of valgrind itself begin with ==NUMBER==.
-    return int(counted[1]), (ran.returncode, written, re.sub(rb"(?m)^==\d+==.*\n", b"", told))
+    # Lines of valgrind itself begin with ==NUMBER==. Older programs write no line and column.
+    answer = re.sub(rb"^(text refused at \d+) \(\d+:\d+\)", rb"\1", written)
+    return int(counted[1]), (ran.returncode, answer, re.sub(rb"(?m)^==\d+==.*\n", b"", told))
 
 
 def send(here, given, piece):

@@ -9,7 +9,7 @@ use crate::explain::Wrong;
 use crate::line::wrong_word;
 use crate::status::Status;
 use clap::error::ErrorKind;
-use std::fmt::Display;
+use std::fmt::{Display, Write};
 use std::{fmt, io};
 
 /// The beginning of the tip of `clap` to pass an unknown option as a value. It is not shown: a misspelled option is
@@ -33,19 +33,79 @@ impl fmt::Display for Escaped<'_> {
     }
 }
 
-/// Lines with their control characters escaped.
+/// A word that has a control character.
 #[derive(Clone, Copy)]
-struct EscapedLines<'a>(&'a str);
+struct ControlWord<'a>(&'a str);
 
-impl fmt::Display for EscapedLines<'_> {
+impl fmt::Display for ControlWord<'_> {
     fn fmt<W: fmt::Write>(&self, f: &mut fmt::Formatter<W>) -> fmt::Result {
-        for (i, line) in self.0.split('\n').enumerate() {
-            if i > 0 {
-                f.write_str("\n")?;
+        write!(f, "'{}' has a control character", Escaped(self.0))
+    }
+}
+
+/// A writer that passes a message of `clap` on, except the line of the tip. It allocates no memory.
+#[derive(Drop)]
+struct WithoutTip<'a, W> {
+    out: &'a mut W,
+    /// The end of `VALUE_TIP` that has not come. Its front is held back.
+    due: &'static str,
+    is_in_tip: bool,
+}
+
+impl<W: fmt::Write> WithoutTip<'_, W> {
+    /// Passes on the front of the tip that is held back.
+    fn flush(&mut self) -> fmt::Result {
+        let held = VALUE_TIP.strip_suffix(self.due).unwrap_or("");
+        self.due = VALUE_TIP;
+        self.out.write_str(held)
+    }
+
+    /// Takes the next character.
+    fn take(&mut self, c: char) -> fmt::Result {
+        if self.is_in_tip {
+            self.is_in_tip = c != '\n';
+            return Ok(());
+        }
+        if !self.due.starts_with(c) {
+            self.flush()?;
+        }
+        match self.due.strip_prefix(c) {
+            None => self.out.write_char(c),
+            Some("") => {
+                self.due = VALUE_TIP;
+                self.is_in_tip = true;
+                Ok(())
             }
-            write!(f, "{}", Escaped(line))?;
+            Some(due) => {
+                self.due = due;
+                Ok(())
+            }
+        }
+    }
+}
+
+impl<W: fmt::Write> fmt::Write for WithoutTip<'_, W> {
+    fn write_str(&mut self, text: &str) -> fmt::Result {
+        for c in text.chars() {
+            self.take(c)?;
         }
         Ok(())
+    }
+}
+
+/// A fault of `clap`, whose message is written without the tip.
+#[derive(Clone, Copy)]
+struct Fault<'a>(&'a clap::Error);
+
+impl fmt::Display for Fault<'_> {
+    fn fmt<W: fmt::Write>(&self, f: &mut fmt::Formatter<W>) -> fmt::Result {
+        let mut out = WithoutTip {
+            out: f,
+            due: VALUE_TIP,
+            is_in_tip: false,
+        };
+        write!(&mut out, "{}", self.0)?;
+        out.flush()
     }
 }
 
@@ -66,17 +126,6 @@ pub fn complain_of<R: Eprint, D: Display>(rt: &R, what: &D, file: &str, cause: i
     }
 }
 
-/// Splits a message of `clap` around its tip to pass an option as a value.
-fn around_tip(message: &str) -> (&str, &str) {
-    let Some((before, tip)) = message.split_once(VALUE_TIP) else {
-        return (message, "");
-    };
-    match tip.split_once('\n') {
-        Some((_, after)) => (before, after),
-        None => (before, ""),
-    }
-}
-
 /// Whether these arguments, the first of which is the program's name, are `explain`, without options.
 fn is_plain_explain(words: &[String]) -> bool {
     let has_option = words.iter().any(|word| word.as_str().starts_with('-'));
@@ -85,17 +134,17 @@ fn is_plain_explain(words: &[String]) -> bool {
 
 /// Reports a fault of `clap` on standard error. It has no contract, as `complain`.
 fn complain_of_parse<R: Eprint + AllocGlobal>(rt: &R, words: &[String], error: &clap::Error) {
-    if error.kind() == ErrorKind::UnknownArgument && is_plain_explain(words) {
+    if let Some(word) = words
+        .iter()
+        .find(|word| word.as_str().contains(char::is_control))
+    {
+        complain(rt, &LineFault::Words);
+        complain(rt, &ControlWord(word.as_str()));
+    } else if error.kind() == ErrorKind::UnknownArgument && is_plain_explain(words) {
         complain(rt, &LineFault::Words);
         complain(rt, &Wrong::Count);
-        return;
-    }
-    match format!(in rt.alloc(); "{error}") {
-        Ok(message) => {
-            let (before, after) = around_tip(message.as_str());
-            let _ = eprint!(rt; "{}{}", EscapedLines(before), EscapedLines(after));
-        }
-        Err(_) => complain(rt, &LineFault::Memory),
+    } else {
+        let _ = eprint!(rt; "{}", Fault(error));
     }
 }
 
