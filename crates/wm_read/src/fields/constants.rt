@@ -125,9 +125,9 @@ fn folded<'a>(
     }
 }
 
-/// Reads a constant expression: an instruction, without parentheses or within them. Fails at a wrong keyword with
-/// `NotConst` for any other instruction of the profile, with `Expected` for the keyword of a form that is no
-/// instruction if it follows an opening parenthesis, and else with `Float` or `UnknownWord`.
+/// Reads a constant expression: an instruction, without parentheses or within them. Fails with `NotConst` for any other
+/// instruction of the profile, and with `Float` or `UnknownWord` for another keyword. After an opening parenthesis, the
+/// keyword of a form that is no instruction is `Expected`.
 pub fn constant<'a>(
     alloc: Global,
     profile: Profile,
@@ -187,7 +187,8 @@ fn closed_constant<'a>(
 }
 
 /// Reads the offset of a segment: `( offset const )`, or an instruction in parentheses. Core spec 6.6.11 and 6.6.12.
-/// Fails with `Expected` at a keyword that is neither `offset` nor an instruction of the profile.
+/// Fails with `Expected` at a keyword that is neither `offset` nor an instruction, and at a sign extension that the
+/// profile lacks.
 pub fn offset<'a>(
     alloc: Global,
     profile: Profile,
