@@ -56,7 +56,7 @@ pub fn number(atom: &[u8], text: &[u8]) -> Result<u32, TextFault>
 
 /// Converts what an identifier resolved to into an index or a depth. The identifier is the first token of `text`.
 /// Fails with `UnknownId` for `None`, and for 2^32 or more.
-fn known(place: Option<usize>, text: &[u8]) -> Result<u32, TextFault>
+pub fn known(place: Option<usize>, text: &[u8]) -> Result<u32, TextFault>
     requires { lexed text.now ≢ [] }
     ensures { Reads (λ n. n) result (reading.small_place place) }
 {

@@ -17,9 +17,9 @@ use crate::fields::signatures::signature;
 use crate::fields::strings::{bytes, name};
 use crate::fields::types::{global_type, limits, table_type};
 use std::alloc::Global;
-use wm_bodies::identifiers::{Names, Space, is_new};
-use wm_bodies::literals::is;
-use wm_bodies::op_immediates::{begins_index, begins_open, close, id, index, open};
+use wm_bodies::identifiers::{Names, Space};
+use wm_bodies::literals::{is, is_id};
+use wm_bodies::op_immediates::{begins_index, begins_open, close, id, index, known, open};
 use wm_syntax::modules::{Element, Export, Function, GlobalDef, Import, Segment};
 use wm_syntax::profile::Profile;
 use wm_syntax::types::{FuncType, Limits};
@@ -125,11 +125,13 @@ fn indices<'a>(
 fn target<'a>(space: &Space, text: &'a [u8]) -> Result<(u32, &'a [u8]), TextFault>
     ensures { Reads (λ x. (x.0, lexed x.1.now)) result (fields.target_at space.now (lexed text.now)) }
 {
-    let (own, rest) = id(text);
-    if is_new(space, own) && begins_open(rest) {
-        Ok((0, rest))
-    } else {
-        index(space, text)
+    match next_token(text) {
+        Some((Lexeme::Atom(atom), rest)) if is_id(atom) => match space.place(atom) {
+            None if begins_open(rest) => Ok((0, rest)),
+            place => Ok((known(place, text)?, rest)),
+        },
+        Some((Lexeme::Open, _)) => Ok((0, text)),
+        _ => index(space, text),
     }
 }
 
