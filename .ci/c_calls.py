@@ -79,6 +79,11 @@ def line(words, given):
     return ran.returncode, ran.stdout
 
 
+def without_position(line):
+    """Returns a line of wmod without the line and column of a refused text: the calls for C give the offset alone."""
+    return re.sub(rb"^(text refused at \d+) \(\d+:\d+\)", rb"\1", line)
+
+
 def line_unread(words):
     """Returns the same if standard input is a folder, which cannot be read."""
     folder = os.open(HERE, os.O_RDONLY)
@@ -122,7 +127,8 @@ def differences(room, program, number):
             text[number % len(text)] = 33 + number % 90
         pairs.append(([f"{room}/convert", "build"], "build", bytes(text)))
     for words, action, given in pairs:
-        found, wanted = line(words, given), line([program, action, "-"], given)
+        found, (status, answer) = line(words, given), line([program, action, "-"], given)
+        wanted = status, without_position(answer)
         if found != wanted:
             yield f"module {number}: {action} by C: {found!r:.200}, and wmod answers {wanted!r:.200}"
 
@@ -148,7 +154,7 @@ def is_flat(room):
         "check": deep.run(f"{room}/check", "4096", deep.DEEP, STACK) == (0, b"valid\n"),
         "canon": deep.run(convert, "canon", deep.DEEP, STACK) == (0, deep.DEEP),
         "show, then build": text[0] == 0 and deep.run(convert, "build", text[1], STACK) == (0, deep.DEEP),
-        "open comments": deep.run(convert, "build", deep.OPEN, STACK) == (1, deep.OPEN_ANSWER),
+        "open comments": deep.run(convert, "build", deep.OPEN, STACK) == (1, without_position(deep.OPEN_ANSWER)),
     }
     wrong = [name for name, well in answers.items() if not well]
     print(f"C: {deep.DEPTH} blocks on a stack of {STACK} KiB: " + (f"wrong: {', '.join(wrong)}" if wrong else "ok"), flush=True)
