@@ -124,6 +124,16 @@ def repeated(*parts):
     return lambda numbers: b"".join(part * (100_000 if numbers.state == 1 else 61_000) for part in parts)
 
 
+def refused_late(end):
+    """Returns a maker of texts of types, each followed by these bytes, with an unknown identifier at the end."""
+
+    def made(numbers):
+        types = (b"(type (func" + b" (param i32)" * (1 + numbers.below(3)) + b"))" + end for _ in range(3_000 if numbers.state == 1 else 1_900))
+        return b"(module " + b"".join(types) + b"(start $f))"
+
+    return made
+
+
 CHECK, CANON, BUILD = ["check"], ["canon"], ["build"]
 UNDER_2, UNDER_3, UNDER_4 = (["check", "--profile", it] for it in "234")
 LOADED = ["canon", "--profile", "4"]
@@ -167,6 +177,8 @@ ROWS = {
     "strings, refused": (BUILD, repeated(b'"a"'), 0),
     "parentheses and letters, refused": (BUILD, repeated(b")a"), 0),
     "digits, refused": (BUILD, repeated(b"1"), 0),
+    "one long line, refused at its end": (BUILD, refused_late(b" "), 0),
+    "many lines, refused at the last": (BUILD, refused_late(b"\n"), 0),
 }
 
 
