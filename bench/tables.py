@@ -4,7 +4,7 @@
     bench/tables.py            names the tables that are wrong; status 1 if there are any
     bench/tables.py --write    writes the tables that are wrong; run `rt fmt` in the two crates after it
 
-Both follow from `name_at` of op_names.rt. `BY_NAME` of wm_syntax has the opcodes in the order of their names; a proof
+Both follow from the rows of table.rt. `BY_NAME` of wm_syntax has the opcodes in the order of their names; a proof
 also covers that order. `GUESSES` of wm_bodies has each opcode at the index that `long_guess` gives its name; a wrong
 guess only costs time.
 """
@@ -13,7 +13,8 @@ import re
 import sys
 
 CRATES = pathlib.Path(__file__).resolve().parent.parent / "crates"
-NAMES = CRATES / "wm_syntax/src/instructions/op_names.rt"
+ROWS = CRATES / "wm_syntax/src/instructions/table.rt"
+SORTED = CRATES / "wm_syntax/src/instructions/op_names.rt"
 GUESSED = CRATES / "wm_bodies/src/op_keywords.rt"
 # the name that is guessed if two names have one index
 PREFERRED = b"memory.size"
@@ -21,7 +22,7 @@ PREFERRED = b"memory.size"
 
 def names():
     """Returns the names of instructions, by opcode."""
-    rows = re.findall(r'0x([0-9A-F]{2}) => b"([^"]+)",', NAMES.read_text(encoding="utf-8"))
+    rows = re.findall(r'0x([0-9A-F]{2}) => b"([^"]+)",', ROWS.read_text(encoding="utf-8"))
     return {int(byte, 16): name.encode() for byte, name in rows}
 
 
@@ -58,7 +59,7 @@ def with_table(source, name, table):
 
 def main():
     named, wrong = names(), []
-    for path, name in ((NAMES, "BY_NAME"), (GUESSED, "GUESSES")):
+    for path, name in ((SORTED, "BY_NAME"), (GUESSED, "GUESSES")):
         source = path.read_text(encoding="utf-8")
         table = by_name(named) if name == "BY_NAME" else guesses(named, source)
         if stated(source, name) != table:

@@ -26,7 +26,7 @@ import literals
 
 HERE = pathlib.Path(__file__).resolve().parent
 PROGRAM = HERE.parent / "crates/wm_cli/out/wm_cli"
-NAMES = HERE.parent / "crates/wm_syntax/src/instructions/op_names.rt"
+NAMES = HERE.parent / "crates/wm_syntax/src/instructions/table.rt"
 PROFILES = ["2", "3"]
 LATER = ["saturating-float-to-int", "simd", "multi-value", "bulk-memory", "reference-types"]
 FLAGS = [f"--disable-{feature}" for feature in LATER]

@@ -10,6 +10,7 @@ pub mod lengths;
 pub mod op_class;
 pub mod op_names;
 pub mod opcodes;
+pub mod table;
 
 /// The integer type that an instruction works on.
 #[derive(Clone, Copy, PartialEq, Eq, Debug)]
