@@ -11,6 +11,7 @@ use crate::modules::locals::{Locals, Run};
 use crate::modules::{
     Element, Export, ExportKind, Function, GlobalDef, Import, ImportDesc, Module, Segment,
 };
+use crate::opcode_table;
 use crate::types::{Const, FuncType, GlobalType, Limits, ValType};
 
 /// A type whose values can be compared.
@@ -100,161 +101,65 @@ impl Same for Op {
     }
 }
 
+// Whether two values of an enum are the same. The lists have the variants without fields, those with one
+// field, those with two, and those whose field a function compares.
+macro_rules! same_variant {
+    (
+        $of:ident: $a:ident, $b:ident;
+        $($none:ident)*; $($one:ident)*; $($two:ident)*; $($part:ident by $same:ident)*
+    ) => {
+        match $a {
+            $($of::$none => matches!($b, $of::$none),)*
+            $($of::$one(x) => match $b {
+                $of::$one(y) => x == y,
+                _ => false,
+            },)*
+            $($of::$two(x, m) => match $b {
+                $of::$two(y, n) => x == y && m == n,
+                _ => false,
+            },)*
+            $($of::$part(x) => match $b {
+                $of::$part(y) => $same(x, y),
+                _ => false,
+            },)*
+        }
+    };
+}
+
 fn same_op(a: Op, b: Op) -> bool
     ensures { (result ≡ true) ↔ (a ≡ b) }
 {
-    match a {
-        Op::Simple(x) => match b {
-            Op::Simple(y) => same_simple(x, y),
-            _ => false,
-        },
-        Op::Block(x) => match b {
-            Op::Block(y) => x == y,
-            _ => false,
-        },
-        Op::Loop(x) => match b {
-            Op::Loop(y) => x == y,
-            _ => false,
-        },
-        Op::If(x) => match b {
-            Op::If(y) => x == y,
-            _ => false,
-        },
-        Op::Else => matches!(b, Op::Else),
-        Op::End => matches!(b, Op::End),
-        Op::BrTable(x) => match b {
-            Op::BrTable(y) => x == y,
-            _ => false,
-        },
-        Op::Label(x) => match b {
-            Op::Label(y) => x == y,
-            _ => false,
-        },
-    }
+    same_variant!(Op: a, b; Else End; Block Loop If BrTable Label;; Simple by same_simple)
+}
+
+macro_rules! same_plain {
+    ([$a:ident $b:ident] $({ $($code:literal => $name:literal, $op:ident $(($immediates:ident))?;)* })*) => {
+        opcode_table!(number, same_number, $a, $b, ($($($op)*)*))
+    };
+}
+
+macro_rules! same_number {
+    (
+        [$a:ident $b:ident ($($plain:ident)*)]
+        $({ $($code:literal => $name:literal, $op:ident($immediates:ident);)* })*
+    ) => {
+        same_variant!(Simple: $a, $b; $($plain)*; $($($op)*)*; Load Store; Numeric by same_numeric)
+    };
 }
 
 fn same_simple(a: Simple, b: Simple) -> bool
     ensures { (result ≡ true) ↔ (a ≡ b) }
 {
-    match a {
-        Simple::Unreachable => matches!(b, Simple::Unreachable),
-        Simple::Nop => matches!(b, Simple::Nop),
-        Simple::Return => matches!(b, Simple::Return),
-        Simple::Drop => matches!(b, Simple::Drop),
-        Simple::Select => matches!(b, Simple::Select),
-        Simple::Br(x) => match b {
-            Simple::Br(y) => x == y,
-            _ => false,
-        },
-        Simple::BrIf(x) => match b {
-            Simple::BrIf(y) => x == y,
-            _ => false,
-        },
-        Simple::Call(x) => match b {
-            Simple::Call(y) => x == y,
-            _ => false,
-        },
-        Simple::CallIndirect(x) => match b {
-            Simple::CallIndirect(y) => x == y,
-            _ => false,
-        },
-        Simple::LocalGet(x) => match b {
-            Simple::LocalGet(y) => x == y,
-            _ => false,
-        },
-        Simple::LocalSet(x) => match b {
-            Simple::LocalSet(y) => x == y,
-            _ => false,
-        },
-        Simple::LocalTee(x) => match b {
-            Simple::LocalTee(y) => x == y,
-            _ => false,
-        },
-        Simple::GlobalGet(x) => match b {
-            Simple::GlobalGet(y) => x == y,
-            _ => false,
-        },
-        Simple::GlobalSet(x) => match b {
-            Simple::GlobalSet(y) => x == y,
-            _ => false,
-        },
-        Simple::MemorySize => matches!(b, Simple::MemorySize),
-        Simple::MemoryGrow => matches!(b, Simple::MemoryGrow),
-        Simple::I32Const(x) => match b {
-            Simple::I32Const(y) => x == y,
-            _ => false,
-        },
-        Simple::I64Const(x) => match b {
-            Simple::I64Const(y) => x == y,
-            _ => false,
-        },
-        Simple::F32Const(x) => match b {
-            Simple::F32Const(y) => x == y,
-            _ => false,
-        },
-        Simple::F64Const(x) => match b {
-            Simple::F64Const(y) => x == y,
-            _ => false,
-        },
-        Simple::Load(x, m) => match b {
-            Simple::Load(y, n) => x == y && m == n,
-            _ => false,
-        },
-        Simple::Store(x, m) => match b {
-            Simple::Store(y, n) => x == y && m == n,
-            _ => false,
-        },
-        Simple::Numeric(x) => match b {
-            Simple::Numeric(y) => same_numeric(x, y),
-            _ => false,
-        },
-    }
+    opcode_table!(plain, same_plain, a, b)
 }
 
 fn same_numeric(a: Numeric, b: Numeric) -> bool
     ensures { (result ≡ true) ↔ (a ≡ b) }
 {
-    match a {
-        Numeric::Test(x) => match b {
-            Numeric::Test(y) => x == y,
-            _ => false,
-        },
-        Numeric::Compare(x, m) => match b {
-            Numeric::Compare(y, n) => x == y && m == n,
-            _ => false,
-        },
-        Numeric::Unary(x, m) => match b {
-            Numeric::Unary(y, n) => x == y && m == n,
-            _ => false,
-        },
-        Numeric::Binary(x, m) => match b {
-            Numeric::Binary(y, n) => x == y && m == n,
-            _ => false,
-        },
-        Numeric::FloatCompare(x, m) => match b {
-            Numeric::FloatCompare(y, n) => x == y && m == n,
-            _ => false,
-        },
-        Numeric::FloatUnary(x, m) => match b {
-            Numeric::FloatUnary(y, n) => x == y && m == n,
-            _ => false,
-        },
-        Numeric::FloatBinary(x, m) => match b {
-            Numeric::FloatBinary(y, n) => x == y && m == n,
-            _ => false,
-        },
-        Numeric::Convert(x) => match b {
-            Numeric::Convert(y) => x == y,
-            _ => false,
-        },
-        Numeric::Wrap => matches!(b, Numeric::Wrap),
-        Numeric::ExtendS => matches!(b, Numeric::ExtendS),
-        Numeric::ExtendU => matches!(b, Numeric::ExtendU),
-        Numeric::SignExtend(x) => match b {
-            Numeric::SignExtend(y) => x == y,
-            _ => false,
-        },
-    }
+    same_variant!(
+        Numeric: a, b; Wrap ExtendS ExtendU; Test Convert SignExtend;
+        Compare Unary Binary FloatCompare FloatUnary FloatBinary;
+    )
 }
 
 impl Same for Body {
