@@ -2,18 +2,47 @@ use crate::convert::converted;
 use crate::validator::judged;
 use crate::{sys, Error, Summary, Validator};
 
-/// Which instructions a module may use.
+/// The features that a module may use. The default is [`Profile::ONE`].
 #[derive(Clone, Copy, PartialEq, Eq, Debug, Default)]
-pub enum Profile {
+pub struct Profile {
+    floats: bool,
+    sign_extension: bool,
+}
+
+impl Profile {
     /// WebAssembly 1.0 without floats.
-    #[default]
-    One,
-    /// `One`, and the five sign-extension instructions.
-    Two,
+    pub const ONE: Profile = Profile {
+        floats: false,
+        sign_extension: false,
+    };
+
+    /// `ONE`, and the five sign-extension instructions.
+    pub const TWO: Profile = Profile {
+        floats: false,
+        sign_extension: true,
+    };
+
     /// All of WebAssembly 1.0, floats too.
-    Three,
-    /// `Three`, and the five sign-extension instructions.
-    Four,
+    pub const THREE: Profile = Profile {
+        floats: true,
+        sign_extension: false,
+    };
+
+    /// `THREE`, and the five sign-extension instructions.
+    pub const FOUR: Profile = Profile {
+        floats: true,
+        sign_extension: true,
+    };
+
+    // Its number in the interface for C.
+    fn number(self) -> u64 {
+        match (self.floats, self.sign_extension) {
+            (false, false) => 1,
+            (false, true) => 2,
+            (true, false) => 3,
+            (true, true) => 4,
+        }
+    }
 }
 
 /// A profile and limits. Each call of this crate is a method here too.
@@ -21,7 +50,7 @@ pub enum Profile {
 /// ```
 /// use wmod::{Options, Profile};
 ///
-/// let options = Options::new().profile(Profile::Two).max_bytes(1_000_000).functions(10_000);
+/// let options = Options::new().profile(Profile::TWO).max_bytes(1_000_000).functions(10_000);
 /// assert!(options.validate(b"\0asm\x01\0\0\0").is_ok());
 ///
 /// let error = options.max_bytes(4).validate(b"\0asm\x01\0\0\0").unwrap_err();
@@ -53,12 +82,7 @@ impl Options {
     /// Sets the instructions and types that a module may use.
     #[must_use]
     pub fn profile(mut self, profile: Profile) -> Options {
-        self.0.profile = match profile {
-            Profile::One => 1,
-            Profile::Two => 2,
-            Profile::Three => 3,
-            Profile::Four => 4,
-        };
+        self.0.profile = profile.number();
         self
     }
 

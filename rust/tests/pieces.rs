@@ -47,11 +47,11 @@ fn options_say_what_is_taken() {
             .map(|it| it.functions)
     };
     assert_eq!(said(one, EXTENDS), Err("refused at 28: BadOpcode".into()));
-    assert_eq!(said(one.profile(Profile::Two), EXTENDS), Ok(1));
-    assert_eq!(said(one.profile(Profile::Four), EXTENDS), Ok(1));
+    assert_eq!(said(one.profile(Profile::TWO), EXTENDS), Ok(1));
+    assert_eq!(said(one.profile(Profile::FOUR), EXTENDS), Ok(1));
     assert_eq!(said(one, FLOAT), Err("refused at 12: Float".into()));
-    assert_eq!(said(one.profile(Profile::Three), FLOAT), Ok(0));
-    assert_eq!(said(one.profile(Profile::Four), FLOAT), Ok(0));
+    assert_eq!(said(one.profile(Profile::THREE), FLOAT), Ok(0));
+    assert_eq!(said(one.profile(Profile::FOUR), FLOAT), Ok(0));
     assert_eq!(
         said(one.max_bytes(7), ADD),
         Err("refused at 8: TooLong".into())

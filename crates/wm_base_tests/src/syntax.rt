@@ -11,6 +11,7 @@ mod locals;
 mod numbers;
 mod op_names;
 mod opcodes;
+mod profile;
 mod scripts;
 mod why;
 

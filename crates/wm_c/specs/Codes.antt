@@ -1,5 +1,5 @@
 -- The numbers of refusals, statuses and profiles in the C interface.
-use Rattle.std.specs.Prelude.{ℕ}
+use Rattle.std.specs.Prelude.{◌≡◌, ◌⊎◌, ℕ}
 use Rattle.wm_syntax.specs.declared.why.Why.{Why}
 use Rattle.wm_syntax.specs.declared.why.Why.TheVariants.{Magic, Version, SectionId, SectionOrder, SectionEnd}
 use Rattle.wm_syntax.specs.declared.why.Why.TheVariants.{BadNumber, BadUtf8, BadByte, Float, BadOpcode}
@@ -10,7 +10,7 @@ use Rattle.wm_syntax.specs.declared.why.Why.TheVariants.{TooLong, Memory, ManyFu
 use Rattle.wm_syntax.specs.declared.profile.Profile.{Profile}
 use Rattle.wm_tokens.specs.declared.faults.TextWhy.{TextWhy}
 use Rattle.wm_tokens.specs.declared.faults.TextWhy.TheVariants as text
-use Rattle.wm_syntax.specs.declared.profile.Profile.TheVariants as profile
+use Rattle.wm_syntax.specs.Profiles.{four, one, three, two}
 
 -- The number of a refusal of a module. 0 means no refusal.
 abbrev pub why_code : Why → ℕ
@@ -126,9 +126,7 @@ text_status_code text.Float = 1
 text_status_code text.Memory = 4
 text_status_code text.BadFloat = 1
 
--- The number of a profile.
-abbrev pub profile_code : Profile → ℕ
-profile_code profile.One = 1
-profile_code profile.Two = 2
-profile_code profile.Three = 3
-profile_code profile.Four = 4
+-- This is the number of this profile. Any other number is that of none.
+abbrev pub IsProfileCode : ℕ → Profile → Type 0
+IsProfileCode n p = ((n ≡ 1) × (p ≡ one)) ⊎ ((n ≡ 2) × (p ≡ two)) ⊎ ((n ≡ 3) × (p ≡ three))
+    ⊎ ((n ≡ 4) × (p ≡ four))

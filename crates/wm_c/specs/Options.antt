@@ -5,7 +5,7 @@ use Rattle.wm_rules.specs.declared.policy.Policy.{Policy}
 use Rattle.wm_read.specs.declared.spellings.Spellings.{Spellings}
 use Rattle.wm_read.specs.declared.spellings.Spellings.TheVariants.{Standard, Older}
 use Rattle.wm_c.specs.declared.options.Options.{Options}
-use Rattle.wm_c.specs.Codes.{profile_code}
+use Rattle.wm_c.specs.Codes.{IsProfileCode}
 
 -- The limit of a policy for a number. A number from 2^32 up is no limit.
 abbrev pub limit_of : ℕ → Option ℕ
@@ -30,7 +30,7 @@ spellings_of o = spellings_by o.old_words
 -- The options are in range, and ask for this profile.
 pub record Asks (o : Options) (p : Profile) : Type 0 where
   pub size : o.size ≡ 56
-  pub profile : o.profile ≡ profile_code p
+  pub profile : IsProfileCode o.profile p
   pub max_bytes : o.max_bytes ≤ 2 ^ 62
   pub old_words : o.old_words ≤ 1
 

@@ -3,7 +3,7 @@
 ghost use Rattle.std.specs.Prelude.{◌≡◌, ◌≢◌, MatchOption};
 ghost use Rattle.wm_syntax.specs.declared.why.Why.{Why as AWhy};
 ghost use Rattle.wm_syntax.specs.declared.profile.Profile.{Profile as AProfile};
-ghost use Rattle.wm_c.specs.Codes.{profile_code, status_code, text_code, text_status_code, why_code};
+ghost use Rattle.wm_c.specs.Codes.{IsProfileCode, status_code, text_code, text_status_code, why_code};
 ghost use Rattle.wm_tokens.specs.declared.faults.TextWhy.{TextWhy as ATextWhy};
 
 use wm_read::faults::TextWhy;
@@ -168,13 +168,13 @@ pub(crate) fn text_of(number: u32) -> Option<TextWhy>
 
 /// Returns the profile with this number, 1 to 4.
 pub(crate) fn profile_of(number: u64) -> Option<Profile>
-    ensures { MatchOption result ((p : AProfile) → number ≢ profile_code p) (λ p. number ≡ profile_code p) }
+    ensures { MatchOption result ((p : AProfile) → IsProfileCode number p → ⊥) (IsProfileCode number) }
 {
     match number {
-        1 => Some(Profile::One),
-        2 => Some(Profile::Two),
-        3 => Some(Profile::Three),
-        4 => Some(Profile::Four),
+        1 => Some(Profile::ONE),
+        2 => Some(Profile::TWO),
+        3 => Some(Profile::THREE),
+        4 => Some(Profile::FOUR),
         _ => None,
     }
 }

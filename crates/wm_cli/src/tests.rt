@@ -174,7 +174,7 @@ fn exit_statuses(rt: HostRuntime) {
 fn plain_line() -> Line {
     Line {
         action: Action::Check,
-        profile: Profile::One,
+        profile: Profile::ONE,
         limit: LIMIT,
         policy: Policy::no_limits(),
         spellings: Spellings::Standard,

@@ -12,7 +12,7 @@ use Rattle.clap.specs.Words.{with_rule}
 use Rattle.clap.specs.Simple.{on_top}
 use Rattle.clap.specs.declared.builder.action.ArgAction.TheVariants.{Set, SetTrue}
 use Rattle.wm_syntax.specs.declared.profile.Profile.{Profile}
-use Rattle.wm_syntax.specs.declared.profile.Profile.TheVariants.{One, Two, Three, Four}
+use Rattle.wm_syntax.specs.Profiles.{four, one, three, two}
 use Rattle.wm_rules.specs.declared.policy.Policy.{Policy}
 use Rattle.wm_read.specs.declared.spellings.Spellings.{Spellings}
 use Rattle.wm_read.specs.declared.spellings.Spellings.TheVariants.{Standard, Older}
@@ -77,17 +77,15 @@ action_name Build = codes "build"
 abbrev pub IsActionWord : Text → Type 0
 IsActionWord text = ((a : Action) × (text ≡ action_name a)) ⊎ (text ≡ codes "explain") ⊎ (text ≡ codes "help")
 
--- The value of `--profile` for each profile.
-abbrev pub profile_name : Profile → Text
-profile_name One = codes "1"
-profile_name Two = codes "2"
-profile_name Three = codes "3"
-profile_name Four = codes "4"
+-- This value of `--profile` names this profile. Any other value names none.
+abbrev pub NamesProfile : Text → Profile → Type 0
+NamesProfile text p = ((text ≡ codes "1") × (p ≡ one)) ⊎ ((text ≡ codes "2") × (p ≡ two))
+    ⊎ ((text ≡ codes "3") × (p ≡ three)) ⊎ ((text ≡ codes "4") × (p ≡ four))
 
--- A value of `--profile` names this profile. An absent one names `One`.
+-- A value of `--profile` names this profile. An absent one names `one`.
 abbrev pub IsProfile : Option Text → Profile → Type 0
-IsProfile None p = p ≡ One
-IsProfile (Some text) p = text ≡ profile_name p
+IsProfile None p = p ≡ one
+IsProfile (Some text) p = NamesProfile text p
 
 -- A value of `--limit` is this number in decimal digits, and the number is at most 2^62. An absent one is
 -- 2^32 - 1.
@@ -157,7 +155,7 @@ IsWrong word (wrong.Action w) = (word (codes "ACTION") ≡ Some w.now) × (IsAct
 IsWrong word (wrong.Topic w) = (word (codes "ACTION") ≡ Some (codes "help"))
     × (word (codes "FILE") ≡ Some w.now) × (IsActionWord w.now → ⊥)
 IsWrong word (wrong.Profile w) = (word (codes "profile") ≡ Some w.now)
-    × ((p : Profile) → w.now ≢ profile_name p)
+    × ((p : Profile) → NamesProfile w.now p → ⊥)
 IsWrong word (wrong.Limit w) = (word (codes "limit") ≡ Some w.now) × ((n : ℕ) → IsLimit (Some w.now) n → ⊥)
 IsWrong word (wrong.MaxFunctions w) = (word (codes "max-functions") ≡ Some w.now)
     × ((n : Option ℕ) → IsMost (Some w.now) n → ⊥)

@@ -7,9 +7,9 @@ ghost use Rattle.clap.specs.Words.{app_of, fault_of, first_value, found_of, rule
 ghost use Rattle.wm_command.specs.declared.arguments.Action.TheVariants.{Build};
 ghost use Rattle.wm_command.specs.declared.arguments.LineFault.TheVariants.{Memory, Words};
 ghost use Rattle.wm_command.specs.Lines.{Asks, AsksNothing, IsActionWord, IsFaultOf, IsLimit, IsMost, IsPolicy};
-ghost use Rattle.wm_command.specs.Lines.{IsProfile, IsSpellings, IsWrong, NoneIsWrong, Says, SaysNone, Stands};
+ghost use Rattle.wm_command.specs.Lines.{IsProfile, IsSpellings, IsWrong, NamesProfile, NoneIsWrong, Says, SaysNone, Stands};
 ghost use Rattle.wm_command.specs.Lines.{action_name, action_rule, file_rule, flag_rule};
-ghost use Rattle.wm_command.specs.Lines.{option_rule, profile_name, versioned, wmod, word_of};
+ghost use Rattle.wm_command.specs.Lines.{option_rule, versioned, wmod, word_of};
 ghost use Rattle.wm_read.specs.declared.spellings.Spellings.{Spellings};
 ghost use Rattle.wm_rules.specs.declared.policy.Policy.{Policy};
 ghost use Rattle.wm_syntax.specs.declared.profile.Profile.{Profile};
@@ -82,14 +82,13 @@ fn is_action_word(text: &str) -> bool
 
 /// Returns the profile with this number, `1` to `4`, or `None` for any other text.
 fn profile_of(text: &str) -> Option<Profile>
-    ensures { MatchOption result ((p : Profile) → text.now ≢ profile_name p)
-        (λ p. text.now ≡ profile_name p) }
+    ensures { MatchOption result ((p : Profile) → NamesProfile text.now p → ⊥) (NamesProfile text.now) }
 {
     match text {
-        "1" => Some(Profile::One),
-        "2" => Some(Profile::Two),
-        "3" => Some(Profile::Three),
-        "4" => Some(Profile::Four),
+        "1" => Some(Profile::ONE),
+        "2" => Some(Profile::TWO),
+        "3" => Some(Profile::THREE),
+        "4" => Some(Profile::FOUR),
         _ => None,
     }
 }
@@ -204,7 +203,7 @@ fn command<'a>(alloc: Global) -> Result<Command<'a>, AllocError>
         .arg(file_arg(alloc))
 }
 
-/// Returns the profile that the value of `--profile` names: `One` if the option is absent, and `None` if no
+/// Returns the profile that the value of `--profile` names: `ONE` if the option is absent, and `None` if no
 /// profile has this name.
 fn profile_by(word: Option<&str>) -> Option<Profile>
     ensures { let said = option_map (λ s. s.now) word.entry in
@@ -212,7 +211,7 @@ fn profile_by(word: Option<&str>) -> Option<Profile>
         → ⊥) (IsProfile said) }
 {
     match word {
-        None => Some(Profile::One),
+        None => Some(Profile::ONE),
         Some(text) => profile_of(text),
     }
 }
@@ -434,7 +433,7 @@ fn no_topic<'a>(matches: &ArgMatches<'a>) -> Option<&'a str>
 fn no_profile<'a>(matches: &ArgMatches<'a>) -> Option<&'a str>
     ensures { let word = first_value (found_of matches.now) (codes "profile") in
         MatchOption result ((p : Profile) × IsProfile word p)
-        (λ text. (word ≡ Some text.now) × ((p : Profile) → text.now ≢ profile_name p)) }
+        (λ text. (word ≡ Some text.now) × ((p : Profile) → NamesProfile text.now p → ⊥)) }
 {
     let text = matches.get_str("profile")?;
     match profile_of(text) {

@@ -14,7 +14,7 @@ use Rattle.wm_syntax.proofs.Unambiguous.{same_u32}
 use Rattle.wm_syntax.proofs.OneInstruction.{one_expression}
 use Rattle.wm_machine.specs.Sections.{Sized, Those, Section, ListSection, StartSection, Custom, Customs, SpellsCustom, header, SpellsConst, SpellsDesc, SpellsImport, SpellsGlobal, SpellsExport, SpellsElement, SpellsRun, SpellsLocals, SpellsSegment, SpellsModule, kind_byte}
 use Rattle.wm_syntax.specs.declared.profile.Profile.{Profile}
-use Rattle.wm_syntax.specs.declared.profile.Profile.TheVariants.{Four}
+use Rattle.wm_syntax.specs.Profiles.{four}
 use Rattle.wm_syntax.proofs.ProfileLaws.{four_extends}
 use Rattle.wm_machine.proofs.Nesting.{spells_more}
 use Rattle.wm_syntax.specs.Modules.{locals_of}
@@ -448,4 +448,4 @@ one_under p m n b h k =
     all
 
 pub one_spelling : (p q : Profile) (m n : Module) (b : List ℕ) → SpellsModule p m b → SpellsModule q n b → m ≡ n
-one_spelling p q m n b h k = one_under Four m n b (spells_more p Four (four_extends p) m b h) (spells_more q Four (four_extends q) n b k)
+one_spelling p q m n b h k = one_under four m n b (spells_more p four (four_extends p) m b h) (spells_more q four (four_extends q) n b k)

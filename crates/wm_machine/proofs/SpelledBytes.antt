@@ -14,13 +14,12 @@ use Rattle.wm_syntax.specs.declared.modules.ImportDesc.TheVariants as desc
 use Rattle.wm_syntax.specs.declared.modules.ExportKind.{ExportKind}
 use Rattle.wm_syntax.specs.declared.modules.ExportKind.TheVariants as kind
 use Rattle.wm_syntax.specs.declared.profile.Profile.{Profile}
-use Rattle.wm_syntax.specs.declared.profile.Profile.TheVariants.{Four}
 use Rattle.wm_syntax.proofs.ProfileLaws.{four_extends, module_of_four}
 use Rattle.wm_syntax.specs.Spelling.{Form, Byte, Exactly, AreBytes, Each, ◌▸◌}
 use Rattle.wm_syntax.specs.Leb128.{Unsigned, Signed}
 use Rattle.wm_syntax.specs.Types.{Signature, SpellsU32, SpellsBytes, SpellsName, SpellsList, SpellsValType, SpellsBlockType, SpellsSignature, SpellsBounds, SpellsLimits, SpellsTableType, SpellsVar, SpellsGlobalType}
 use Rattle.wm_syntax.specs.Instructions.{SpellsFloat, SpellsImmediates, SpellsOp}
-use Rattle.wm_syntax.specs.Profiles.{HasSignature}
+use Rattle.wm_syntax.specs.Profiles.{HasSignature, four}
 use Rattle.wm_syntax.specs.Opcodes.{opcode}
 use Rattle.wm_syntax.specs.OpClasses.{class_of}
 use Rattle.wm_syntax.specs.exact.ByteTable.{classes}
@@ -213,4 +212,4 @@ module _ (p : Profile) where
   whole_bytes b k h = let u = items_to p b k h in flat_bytes u.0 b u.1
 
 pub spelled_bytes : (p : Profile) (m : Module) (b : List ℕ) → SpellsModule p m b → AreBytes b
-spelled_bytes p m b h = let u = flat_to Four m b (spells_more p Four (four_extends p) m b h) (module_of_four m) in flat_bytes Four u.0 b u.2
+spelled_bytes p m b h = let u = flat_to four m b (spells_more p four (four_extends p) m b h) (module_of_four m) in flat_bytes four u.0 b u.2

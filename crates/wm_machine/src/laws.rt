@@ -3,10 +3,9 @@
 ghost use Rattle.std.specs.Prelude.{◌≡◌, ◌+◌, ◌≤◌, ◌++◌, ◌↔◌, Err, ℕ, List, length, map};
 ghost use Rattle.std.specs.List.{AllByRecursion};
 ghost use Rattle.wm_syntax.specs.declared.profile.Profile.{Profile};
-ghost use Rattle.wm_syntax.specs.declared.profile.Profile.TheVariants.{Four};
 ghost use Rattle.wm_syntax.specs.Spelling.{AreBytes};
 ghost use Rattle.wm_syntax.specs.Modules.{Module as ModuleValue};
-ghost use Rattle.wm_syntax.specs.Profiles.{Extends, IsOf};
+ghost use Rattle.wm_syntax.specs.Profiles.{Extends, IsOf, four};
 ghost use Rattle.wm_machine.specs.Flat.{FlatModule, IsFlatOf, SpellsFlat, flat_items};
 ghost use Rattle.wm_machine.specs.Items.{Marks, data_byte, items_at};
 ghost use Rattle.wm_machine.specs.Sections.{SpellsModule};
@@ -77,9 +76,9 @@ pub fn items_determine_module()
         → m ≡ n }
 {}
 
-/// Every module is of the profile `Four`.
+/// Every module is of the profile `four`.
 pub fn fourth_profile_has_all()
-    ensures { (m : ModuleValue) → IsOf Four m }
+    ensures { (m : ModuleValue) → IsOf four m }
 {}
 
 /// Bytes that spell a module under a profile spell it under every profile that extends this one.

@@ -99,16 +99,16 @@ fn action_of(line: &str) -> io::Result<(Action, &str)> {
     }
 }
 
-/// Parses the profile, `One` if there is none, and returns it and the rest.
+/// Parses the profile, `ONE` if there is none, and returns it and the rest.
 fn profile(text: &str) -> (Profile, &str) {
     let Some(rest) = text.strip_prefix("profile ") else {
-        return (Profile::One, text);
+        return (Profile::ONE, text);
     };
     match first_word(rest) {
-        ("2", rest) => (Profile::Two, rest),
-        ("3", rest) => (Profile::Three, rest),
-        ("4", rest) => (Profile::Four, rest),
-        _ => (Profile::One, text),
+        ("2", rest) => (Profile::TWO, rest),
+        ("3", rest) => (Profile::THREE, rest),
+        ("4", rest) => (Profile::FOUR, rest),
+        _ => (Profile::ONE, text),
     }
 }
 

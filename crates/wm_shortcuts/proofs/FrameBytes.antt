@@ -2,7 +2,7 @@
 use Rattle.std.proofs.Common.{◌≡◌, ℕ, zero, suc, ◌+◌, ◌-◌, ◌<◌, ◌≤◌, List, [], Option, Some, None, Result, length, length-drop, drop, get_or-drop, slice_index, slice_range, refl, sym, ◌∙◌, ap, subst, arith}
 use Rattle.std.proofs.lemmas.List.{take_rest}
 use Rattle.wm_syntax.specs.declared.profile.Profile.{Profile}
-use Rattle.wm_syntax.specs.declared.profile.Profile.TheVariants.{One}
+use Rattle.wm_syntax.specs.Profiles.{one}
 use Rattle.wm_syntax.specs.declared.why.Why.{Why}
 use Rattle.wm_machine.specs.declared.machine.Machine.{Machine}
 use Rattle.wm_machine.specs.declared.machine.Machine.TheVariants as machine
@@ -27,7 +27,7 @@ header_goes : (i c : ℕ) (n : Machine) → c ≡ slice_index header i → heade
 header_goes i c n same is live = record { steps = λ p. ap (λ c. header_step i c) same ∙ is; goes_on = live }
 
 not_refused : (m n : Machine) (c : ℕ) → IsFrameStep m c n → refusal_in_machine m ≡ None
-not_refused (machine.Refused w) n c to = ap (λ y. refusal_in_machine y.0) (to.steps One) ∙ to.goes_on
+not_refused (machine.Refused w) n c to = ap (λ y. refusal_in_machine y.0) (to.steps one) ∙ to.goes_on
 not_refused m n c to = refl
 
 -- what completed nothing did so byte by byte

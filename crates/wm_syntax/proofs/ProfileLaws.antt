@@ -4,7 +4,6 @@ use Rattle.std.specs.List.{AllByRecursion}
 use Rattle.wm_syntax.specs.declared.profile.Feature.{Feature}
 use Rattle.wm_syntax.specs.declared.profile.Feature.TheVariants.{Base, Floats, SignExtension}
 use Rattle.wm_syntax.specs.declared.profile.Profile.{Profile}
-use Rattle.wm_syntax.specs.declared.profile.Profile.TheVariants.{One, Four}
 use Rattle.wm_syntax.specs.declared.instructions.Op.{Op}
 use Rattle.wm_syntax.specs.declared.instructions.Op.TheVariants as op
 use Rattle.wm_syntax.specs.Instructions.{HasElse, HasOp, HasOps, Instruction, Instructions, none, snoc, simple, table, block, loop, choice}
@@ -13,7 +12,7 @@ use Rattle.wm_syntax.specs.declared.modules.ImportDesc.TheVariants.{Global}
 use Rattle.wm_syntax.specs.declared.types.Const.{Const}
 use Rattle.wm_syntax.specs.declared.types.ValType.{ValType}
 use Rattle.wm_syntax.specs.Modules.{Element, Function, GlobalDef, Import, Module, Segment, constant}
-use Rattle.wm_syntax.specs.Profiles.{Extends, HasBlockType, HasConst, HasDesc, HasFunction, HasGlobal, HasInstruction, HasInstructions, HasSignature, HasType, IsOf, IsOpOf, feature_of, has, type_feature}
+use Rattle.wm_syntax.specs.Profiles.{Extends, HasBlockType, HasConst, HasDesc, HasFunction, HasGlobal, HasInstruction, HasInstructions, HasSignature, HasType, IsOf, IsOpOf, feature_of, four, has, one, type_feature}
 use Rattle.wm_syntax.specs.Types.{Signature}
 
 -- A property of each member of a list, and another that follows from it.
@@ -79,18 +78,18 @@ module _ (p q : Profile) (more : Extends q p) where
   op_of_more (op.If t) h = block_type_more t h
   op_of_more _ h = tt
 
-pub extends_one : (q : Profile) → Extends q One
+pub extends_one : (q : Profile) → Extends q one
 extends_one q Base h = refl
 extends_one q Floats h = let e : false ≡ true = h in cc
 extends_one q SignExtension h = let e : false ≡ true = h in cc
 
 -- The fourth profile has every feature, so everything belongs to it.
-pub four_has : (f : Feature) → IsTrue (has Four f)
+pub four_has : (f : Feature) → IsTrue (has four f)
 four_has Base = refl
 four_has Floats = refl
 four_has SignExtension = refl
 
-pub four_extends : (p : Profile) → Extends Four p
+pub four_extends : (p : Profile) → Extends four p
 four_extends p f h = four_has f
 
 module _ {X : Type 0} (P : X → Type 0) (each : (x : X) → P x) where
@@ -98,43 +97,43 @@ module _ {X : Type 0} (P : X → Type 0) (each : (x : X) → P x) where
   all_of_each [] = tt
   all_of_each (x ∷ xs) = (each x, all_of_each xs)
 
-type_of_four : (t : ValType) → HasType Four t
+type_of_four : (t : ValType) → HasType four t
 type_of_four t = four_has (type_feature t)
 
-block_type_of_four : (t : Option ValType) → HasBlockType Four t
+block_type_of_four : (t : Option ValType) → HasBlockType four t
 block_type_of_four None = tt
 block_type_of_four (Some t) = type_of_four t
 
-const_of_four : (c : Const) → HasConst Four c
+const_of_four : (c : Const) → HasConst four c
 const_of_four c = four_has (feature_of (constant c))
 
 mutual
-  instruction_of_four : (i : Instruction) → HasInstruction Four i
+  instruction_of_four : (i : Instruction) → HasInstruction four i
   instruction_of_four (simple i) = four_has (feature_of i)
   instruction_of_four (table labels default) = tt
   instruction_of_four (block t body) = (block_type_of_four t, instructions_of_four body)
   instruction_of_four (loop t body) = (block_type_of_four t, instructions_of_four body)
   instruction_of_four (choice t first second) = (block_type_of_four t, instructions_of_four first, instructions_of_four second)
 
-  instructions_of_four : (s : Instructions) → HasInstructions Four s
+  instructions_of_four : (s : Instructions) → HasInstructions four s
   instructions_of_four none = tt
   instructions_of_four (snoc s i) = (instructions_of_four s, instruction_of_four i)
 
-desc_of_four : (d : ImportDesc) → HasDesc Four d
+desc_of_four : (d : ImportDesc) → HasDesc four d
 desc_of_four (Global g) = type_of_four g.ty
 desc_of_four _ = tt
 
-types_of_four : (ts : List ValType) → AllByRecursion (HasType Four) ts
-types_of_four ts = all_of_each (HasType Four) type_of_four ts
+types_of_four : (ts : List ValType) → AllByRecursion (HasType four) ts
+types_of_four ts = all_of_each (HasType four) type_of_four ts
 
-pub module_of_four : (m : Module) → IsOf Four m
+pub module_of_four : (m : Module) → IsOf four m
 module_of_four m = record {
-  types = all_of_each (HasSignature Four) (λ f. (types_of_four f.params, types_of_four f.results)) m.types;
-  imports = all_of_each (λ (i : Import). HasDesc Four i.desc) (λ i. desc_of_four i.desc) m.imports;
-  functions = all_of_each (HasFunction Four) (λ f. (types_of_four f.locals, instructions_of_four f.body)) m.functions;
-  globals = all_of_each (HasGlobal Four) (λ g. (type_of_four g.ty.ty, const_of_four g.init)) m.globals;
-  elements = all_of_each (λ (e : Element). HasConst Four e.offset) (λ e. const_of_four e.offset) m.elements;
-  segments = all_of_each (λ (s : Segment). HasConst Four s.offset) (λ s. const_of_four s.offset) m.segments;
+  types = all_of_each (HasSignature four) (λ f. (types_of_four f.params, types_of_four f.results)) m.types;
+  imports = all_of_each (λ (i : Import). HasDesc four i.desc) (λ i. desc_of_four i.desc) m.imports;
+  functions = all_of_each (HasFunction four) (λ f. (types_of_four f.locals, instructions_of_four f.body)) m.functions;
+  globals = all_of_each (HasGlobal four) (λ g. (type_of_four g.ty.ty, const_of_four g.init)) m.globals;
+  elements = all_of_each (λ (e : Element). HasConst four e.offset) (λ e. const_of_four e.offset) m.elements;
+  segments = all_of_each (λ (s : Segment). HasConst four s.offset) (λ s. const_of_four s.offset) m.segments;
 }
 
 -- A property of each member of a joined list.

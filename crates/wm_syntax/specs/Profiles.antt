@@ -1,6 +1,6 @@
--- The instructions and the types of each profile. Each of them belongs to a feature, and each profile has
--- some features. `One` is WebAssembly 1.0 without floats, and `Two` also has the five sign-extension
--- instructions. `Three` is all of WebAssembly 1.0, and `Four` also has the five sign-extension instructions.
+-- The instructions and the types of each profile. Each of them belongs to a feature, and a profile is a set of
+-- features. `one` is WebAssembly 1.0 without floats, and `two` also has the five sign-extension instructions.
+-- `three` is all of WebAssembly 1.0, and `four` also has the five sign-extension instructions.
 use Rattle.std.specs.Prelude.{Bool, true, false, IsTrue, Option, Some, None}
 use Rattle.std.specs.List.{AllByRecursion}
 use Rattle.wm_syntax.specs.declared.types.Const.{Const}
@@ -19,7 +19,6 @@ use Rattle.wm_syntax.specs.declared.modules.ImportDesc.TheVariants.{Global}
 use Rattle.wm_syntax.specs.declared.profile.Feature.{Feature}
 use Rattle.wm_syntax.specs.declared.profile.Feature.TheVariants.{Base, Floats, SignExtension}
 use Rattle.wm_syntax.specs.declared.profile.Profile.{Profile}
-use Rattle.wm_syntax.specs.declared.profile.Profile.TheVariants.{One, Two, Three, Four}
 use Rattle.wm_syntax.specs.Types.{Signature}
 use Rattle.wm_syntax.specs.Instructions.{Instruction, Instructions, none, snoc, simple, table, block, loop}
 use Rattle.wm_syntax.specs.Instructions.{choice}
@@ -28,14 +27,21 @@ use Rattle.wm_syntax.specs.Modules.{Function, GlobalDef, Module, constant}
 -- Whether a profile has a feature.
 abbrev pub has : Profile → Feature → Bool
 has p Base = true
-has One Floats = false
-has Two Floats = false
-has Three Floats = true
-has Four Floats = true
-has One SignExtension = false
-has Two SignExtension = true
-has Three SignExtension = false
-has Four SignExtension = true
+has p Floats = p.floats
+has p SignExtension = p.sign_extension
+
+-- The profiles that have a number.
+abbrev pub one : Profile
+one = record { floats = false; sign_extension = false }
+
+abbrev pub two : Profile
+two = record { floats = false; sign_extension = true }
+
+abbrev pub three : Profile
+three = record { floats = true; sign_extension = false }
+
+abbrev pub four : Profile
+four = record { floats = true; sign_extension = true }
 
 -- The profile q has every feature of p.
 abbrev pub Extends : Profile → Profile → Type 0

@@ -1,19 +1,14 @@
 //! Profiles, and the features of instructions and types.
 
-ghost use Rattle.std.specs.Prelude.{◌≡◌};
-ghost use Rattle.wm_syntax.specs.Profiles.{has};
+ghost use Rattle.std.specs.Prelude.{◌≡◌, ◌≢◌, IsTrue};
+ghost use Rattle.wm_syntax.specs.Profiles.{Extends, has};
+ghost use Rattle.wm_syntax.specs.declared.profile.Feature.{Feature as AFeature};
 
-/// The set of instructions and types that a module may use.
+/// The features that a module may use. Each profile has `Feature::Base`.
 #[derive(Clone, Copy, PartialEq, Eq, Debug)]
-pub enum Profile {
-    /// WebAssembly 1.0 without floats.
-    One,
-    /// WebAssembly 1.0 without floats, and the five sign-extension instructions that came later.
-    Two,
-    /// All of WebAssembly 1.0.
-    Three,
-    /// All of WebAssembly 1.0, and the five sign-extension instructions.
-    Four,
+pub struct Profile {
+    floats: bool,
+    sign_extension: bool,
 }
 
 /// The feature that an instruction or a type belongs to.
@@ -28,6 +23,49 @@ pub enum Feature {
 }
 
 impl Profile {
+    /// WebAssembly 1.0 without floats.
+    pub const ONE: Profile = Profile {
+        floats: false,
+        sign_extension: false,
+    };
+
+    /// WebAssembly 1.0 without floats, and the five sign-extension instructions that came later.
+    pub const TWO: Profile = Profile {
+        floats: false,
+        sign_extension: true,
+    };
+
+    /// All of WebAssembly 1.0.
+    pub const THREE: Profile = Profile {
+        floats: true,
+        sign_extension: false,
+    };
+
+    /// All of WebAssembly 1.0, and the five sign-extension instructions.
+    pub const FOUR: Profile = Profile {
+        floats: true,
+        sign_extension: true,
+    };
+
+    /// Returns the profile that also has the feature.
+    pub fn with(self, feature: Feature) -> Profile
+        ensures added { IsTrue (has result feature) }
+        ensures others { (other : AFeature) → other ≢ feature → has result other ≡ has self other }
+        ensures extends { Extends result self }
+    {
+        match feature {
+            Feature::Base => self,
+            Feature::Floats => Profile {
+                floats: true,
+                ..self
+            },
+            Feature::SignExtension => Profile {
+                sign_extension: true,
+                ..self
+            },
+        }
+    }
+
     /// Whether a module of the profile may use what belongs to the feature.
     #[inline(always)]
     pub fn has(self, feature: Feature) -> bool
@@ -35,8 +73,8 @@ impl Profile {
     {
         match feature {
             Feature::Base => true,
-            Feature::Floats => matches!(self, Profile::Three | Profile::Four),
-            Feature::SignExtension => matches!(self, Profile::Two | Profile::Four),
+            Feature::Floats => self.floats,
+            Feature::SignExtension => self.sign_extension,
         }
     }
 }

@@ -162,40 +162,40 @@ fn play(
     Ok(())
 }
 
-// A body with a sign-extension instruction: `Two` and `Four` have it.
+// A body with a sign-extension instruction: `TWO` and `FOUR` have it.
 const EXTENDED: &str = "H 01 04 01 60 00 00 03 02 01 00 0A 05 01 03 00 C0 0B";
 
 #[test]
 fn items_and_their_places(rt: HostRuntime) -> Result<(), Fail> {
-    play(&rt, rt.alloc(), Profile::One, ITEMS, 17)?;
-    play(&rt, rt.alloc(), Profile::Four, ITEMS, 17)
+    play(&rt, rt.alloc(), Profile::ONE, ITEMS, 17)?;
+    play(&rt, rt.alloc(), Profile::FOUR, ITEMS, 17)
 }
 
 #[test]
 fn what_is_refused(rt: HostRuntime) -> Result<(), Fail> {
-    play(&rt, rt.alloc(), Profile::One, REFUSALS, 48)?;
-    play(&rt, rt.alloc(), Profile::Two, REFUSALS, 48)
+    play(&rt, rt.alloc(), Profile::ONE, REFUSALS, 48)?;
+    play(&rt, rt.alloc(), Profile::TWO, REFUSALS, 48)
 }
 
 #[test]
 fn code_that_is_refused(rt: HostRuntime) -> Result<(), Fail> {
-    play(&rt, rt.alloc(), Profile::One, CODE_REFUSALS, 19)
+    play(&rt, rt.alloc(), Profile::ONE, CODE_REFUSALS, 19)
 }
 
 #[test]
 fn floats(rt: HostRuntime) -> Result<(), Fail> {
-    play(&rt, rt.alloc(), Profile::Three, FLOATS, 12)?;
-    play(&rt, rt.alloc(), Profile::Four, FLOATS, 12)
+    play(&rt, rt.alloc(), Profile::THREE, FLOATS, 12)?;
+    play(&rt, rt.alloc(), Profile::FOUR, FLOATS, 12)
 }
 
 #[test]
 fn sign_extensions(rt: HostRuntime) -> Result<(), Fail> {
     let bytes = bytes_of(rt.alloc(), EXTENDED)?;
-    for profile in [Profile::One, Profile::Three] {
+    for profile in [Profile::ONE, Profile::THREE] {
         let found = refusal(rt.alloc(), profile, bytes.as_slice())?;
         assert_eq!(rt; found.as_str(), "24 BadOpcode");
     }
-    for profile in [Profile::Two, Profile::Four] {
+    for profile in [Profile::TWO, Profile::FOUR] {
         let found = refusal(rt.alloc(), profile, bytes.as_slice())?;
         assert_eq!(rt; found.as_str(), "");
     }
@@ -204,7 +204,7 @@ fn sign_extensions(rt: HostRuntime) -> Result<(), Fail> {
 
 #[test]
 fn a_sink_that_counts(rt: HostRuntime) -> Result<(), Fail> {
-    let mut decoder = Decoder::new(rt.alloc(), NONE, Profile::One, 1000);
+    let mut decoder = Decoder::new(rt.alloc(), NONE, Profile::ONE, 1000);
     for piece in bytes_of(rt.alloc(), ALL)?.chunks(7) {
         let _ = decoder.feed(piece);
     }
@@ -222,7 +222,7 @@ const SEGMENTS: &str = "H 0B 12 02 00 41 00 0B 07 01 02 03 04 05 06 07 00 41 00 
 fn data_come_in_slices(rt: HostRuntime) -> Result<(), Fail> {
     let bytes = bytes_of(rt.alloc(), SEGMENTS)?;
     for cut in 0..=bytes.len() {
-        let mut decoder = Decoder::new(rt.alloc(), NONE, Profile::One, 1000);
+        let mut decoder = Decoder::new(rt.alloc(), NONE, Profile::ONE, 1000);
         for piece in [&bytes[..cut], &bytes[cut..]] {
             let before = decoder.sink().slices;
             assert_eq!(rt; decoder.feed(piece), Ok(()));
@@ -253,7 +253,7 @@ fn expect_held(
 
 #[test]
 fn a_name_that_goes_on(rt: HostRuntime) {
-    let mut decoder = Decoder::new(rt.alloc(), nothing_seen(rt.alloc()), Profile::One, 1000);
+    let mut decoder = Decoder::new(rt.alloc(), nothing_seen(rt.alloc()), Profile::ONE, 1000);
     expect_held(&rt, &mut decoder, &HEADER, 0, 0);
     expect_held(&rt, &mut decoder, b"\x00\x04\x03ab", 2, 0);
     expect_held(&rt, &mut decoder, b"c\x01\x04\x01\x60", 0, 1);
@@ -263,7 +263,7 @@ fn a_name_that_goes_on(rt: HostRuntime) {
 fn past_the_limit(alloc: Global, first: usize, size: usize) -> Option<Refusal>
     requires { 0 < size }
 {
-    let mut decoder = Decoder::new(alloc, NONE, Profile::One, 7);
+    let mut decoder = Decoder::new(alloc, NONE, Profile::ONE, 7);
     let (front, back) = HEADER.split_at(first.min(HEADER.len()));
     let _ = decoder.feed(front);
     let _ = decoder.feed(&[]);
@@ -294,14 +294,14 @@ fn a_limit_within_custom_bytes(rt: HostRuntime) -> Result<(), Fail> {
     let mut bytes = bytes_of(rt.alloc(), "H 00 7F 01 61")?;
     bytes.extend_from_slice(&[0; 125])?;
     for size in SIZES {
-        let mut decoder = Decoder::new(rt.alloc(), NONE, Profile::One, 20);
+        let mut decoder = Decoder::new(rt.alloc(), NONE, Profile::ONE, 20);
         for piece in bytes.chunks(size) {
             let _ = decoder.feed(piece);
         }
         assert_eq!(rt; decoder.feed(&[]), Err(refusal), "in pieces of {size}");
     }
     for cut in 0..=bytes.len() {
-        let mut decoder = Decoder::new(rt.alloc(), NONE, Profile::One, 20);
+        let mut decoder = Decoder::new(rt.alloc(), NONE, Profile::ONE, 20);
         let _ = decoder.feed(&bytes[..cut]);
         assert_eq!(rt; decoder.feed(&bytes[cut..]), Err(refusal), "cut at {cut}");
     }
@@ -310,7 +310,7 @@ fn a_limit_within_custom_bytes(rt: HostRuntime) -> Result<(), Fail> {
 
 // Returns the refusals of `feed` and of `finish` with a sink that refuses all items.
 fn refused_by_full(alloc: Global, bytes: &[u8]) -> (Option<Refusal>, Option<Refusal>) {
-    let mut decoder = Decoder::new(alloc, Full {}, Profile::One, 1000);
+    let mut decoder = Decoder::new(alloc, Full {}, Profile::ONE, 1000);
     let answer = decoder.feed(bytes).err();
     (answer, decoder.finish().err())
 }
@@ -353,7 +353,7 @@ fn laws_are_called(rt: HostRuntime) -> Result<(), Fail> {
     laws::rule_names_are_of_items::<Recorder>();
     laws::profiles_answer_alike::<Recorder>();
     laws::items_tell_the_profile();
-    let told = told(rt.alloc(), Profile::One, &HEADER, 0, 1)?;
+    let told = told(rt.alloc(), Profile::ONE, &HEADER, 0, 1)?;
     assert_eq!(rt; told.as_str(), "taken");
     Ok(())
 }

@@ -7,7 +7,7 @@
 // judging a module
 pub use wm_decode::Refusal;
 pub use wm_rules::{FromFault, Policy, Summary, Validator, validate, validate_from};
-pub use wm_syntax::profile::Profile;
+pub use wm_syntax::profile::{Feature, Profile};
 pub use wm_syntax::why::Why;
 
 // a module as a value

@@ -32,10 +32,10 @@ pub(crate) fn digits_of(rt: &impl Abort, alloc: Global, bytes: &[u8]) -> String 
 
 pub(crate) fn profile_of(rt: &impl Abort, word: &str) -> Profile {
     match word {
-        "One" => Profile::One,
-        "Two" => Profile::Two,
-        "Three" => Profile::Three,
-        "Four" => Profile::Four,
+        "ONE" => Profile::ONE,
+        "TWO" => Profile::TWO,
+        "THREE" => Profile::THREE,
+        "FOUR" => Profile::FOUR,
         _ => unknown(rt, word),
     }
 }

@@ -49,7 +49,7 @@ pub(crate) fn ops_of(rt: &impl Abort, alloc: Global, text: &str) -> Vec<Op> {
 /// Reads an op such as `br_table 1`.
 pub(crate) fn op_of(rt: &impl Abort, text: &str) -> Op {
     let (name, with) = word_of(text);
-    match op_named(Profile::Three, name.as_bytes()) {
+    match op_named(Profile::THREE, name.as_bytes()) {
         OpClass::Plain(op) => op,
         OpClass::With(immediates) => op_with(rt, immediates, with),
         _ => label_of(rt, name, with),

@@ -8,19 +8,19 @@ use wm_command::arguments::LineFault;
 use wm_command::line::request;
 
 /// Rows of arguments with the line that they give, or with the message for the wrong one.
-const LINES: &str = r#"read wmod check = Check One 4294967295 None None None Standard None None
-read wmod check --limit 007 - = Check One 7 None None None Standard Some("-") None
-read wmod show = Show One 4294967295 None None None Standard None None
-read wmod build = Build One 4294967295 None None None Standard None None
-read wmod --limit=4611686018427387904 stats --profile 2 a.wasm = Stats Two 4611686018427387904 None None None Standard Some("a.wasm") Some("a.wasm")
-read wmod check --max-functions 7 = Check One 4294967295 Some(7) None None Standard None None
-read wmod stats --max-locals 4294967295 = Stats One 4294967295 None Some(4294967295) None Standard None None
-read wmod canon --max-open 0 = Canon One 4294967295 None None Some(0) Standard None None
-read wmod --max-open=3 show --max-locals 002 --max-functions 1 = Show One 4294967295 Some(1) Some(2) Some(3) Standard None None
-read wmod build --old-words a.wat = Build One 4294967295 None None None Older Some("a.wat") Some("a.wat")
-read wmod --old-words build --max-locals 0 = Build One 4294967295 None Some(0) None Older None None
-read wmod check --profile 3 = Check Three 4294967295 None None None Standard None None
-read wmod show --profile 4 - = Show Four 4294967295 None None None Standard Some("-") None
+const LINES: &str = r#"read wmod check = Check ONE 4294967295 None None None Standard None None
+read wmod check --limit 007 - = Check ONE 7 None None None Standard Some("-") None
+read wmod show = Show ONE 4294967295 None None None Standard None None
+read wmod build = Build ONE 4294967295 None None None Standard None None
+read wmod --limit=4611686018427387904 stats --profile 2 a.wasm = Stats TWO 4611686018427387904 None None None Standard Some("a.wasm") Some("a.wasm")
+read wmod check --max-functions 7 = Check ONE 4294967295 Some(7) None None Standard None None
+read wmod stats --max-locals 4294967295 = Stats ONE 4294967295 None Some(4294967295) None Standard None None
+read wmod canon --max-open 0 = Canon ONE 4294967295 None None Some(0) Standard None None
+read wmod --max-open=3 show --max-locals 002 --max-functions 1 = Show ONE 4294967295 Some(1) Some(2) Some(3) Standard None None
+read wmod build --old-words a.wat = Build ONE 4294967295 None None None Older Some("a.wat") Some("a.wat")
+read wmod --old-words build --max-locals 0 = Build ONE 4294967295 None Some(0) None Older None None
+read wmod check --profile 3 = Check THREE 4294967295 None None None Standard None None
+read wmod show --profile 4 - = Show FOUR 4294967295 None None None Standard Some("-") None
 read wmod explain Index = explain Some("Index")
 read wmod --profile 3 explain --limit=7 = explain None
 read wmod help = help

@@ -30,7 +30,7 @@ use wm_command::arguments::{Action, Line, LineFault, Request};
 use wm_command::line::{request, wrong_word};
 use wm_command::status::{Status, exit_code};
 use wm_rules::Policy;
-use wm_syntax::profile::Profile;
+use wm_syntax::profile::{Feature, Profile};
 use wm_tokens::faults::TextFault;
 
 /// Splits a command into its words.
@@ -55,6 +55,19 @@ fn bytes_of(alloc: Global, words: &str) -> Result<Vec<u8>, Fail> {
     Ok(bytes)
 }
 
+// The constant that a profile is.
+fn constant_of(profile: Profile) -> &'static str {
+    match (
+        profile.has(Feature::Floats),
+        profile.has(Feature::SignExtension),
+    ) {
+        (false, false) => "ONE",
+        (false, true) => "TWO",
+        (true, false) => "THREE",
+        (true, true) => "FOUR",
+    }
+}
+
 fn tell_line(alloc: Global, line: &Line) -> Result<String, Fail> {
     let Line {
         action,
@@ -70,7 +83,8 @@ fn tell_line(alloc: Global, line: &Line) -> Result<String, Fail> {
         depth,
     } = policy;
     Ok(format!(in alloc;
-        "{action:?} {profile:?} {limit} {functions:?} {locals:?} {depth:?} {spellings:?} {file:?} {:?}",
+        "{action:?} {} {limit} {functions:?} {locals:?} {depth:?} {spellings:?} {file:?} {:?}",
+        constant_of(*profile),
         line.path()
     )?)
 }
@@ -145,9 +159,10 @@ fn is_same_under_more(alloc: Global, line: &Line, input: &[u8], told: &str) -> R
     if !told.starts_with("0 ") {
         return Ok(true);
     }
-    let profile = match line.profile {
-        Profile::One => Profile::Two,
-        _ => Profile::Four,
+    let profile = if line.profile == Profile::ONE {
+        Profile::TWO
+    } else {
+        Profile::FOUR
     };
     let more = Line {
         action: line.action,

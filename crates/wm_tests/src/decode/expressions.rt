@@ -86,7 +86,7 @@ body 28 02 80 01 11 03 00 3F 00 0B = [Simple(Load(I32Load, MemArg { align: 2, of
 body 42 80 80 80 80 80 80 80 80 80 7F 0B = [Simple(I64Const(-9223372036854775808)), End]
 ";
 
-// C0 is a sign-extension instruction, which profile `One` lacks.
+// C0 is a sign-extension instruction, which profile `ONE` lacks.
 const REFUSED: &str = "body 43 = Float
 body 44 = Float
 body 2A = Float
@@ -131,13 +131,13 @@ body 0E 02 00 01 00 0B = [BrTable(2), Label(0), Label(1), Label(0), End]
 
 #[test]
 fn whole_and_refused(rt: HostRuntime) -> Result<(), Fail> {
-    play(&rt, rt.alloc(), Profile::One, WHOLE, 4)?;
-    play(&rt, rt.alloc(), Profile::Four, WHOLE, 4)?;
-    play(&rt, rt.alloc(), Profile::One, REFUSED, 14)?;
-    play(&rt, rt.alloc(), Profile::One, CUT, 6)
+    play(&rt, rt.alloc(), Profile::ONE, WHOLE, 4)?;
+    play(&rt, rt.alloc(), Profile::FOUR, WHOLE, 4)?;
+    play(&rt, rt.alloc(), Profile::ONE, REFUSED, 14)?;
+    play(&rt, rt.alloc(), Profile::ONE, CUT, 6)
 }
 
 #[test]
 fn floats(rt: HostRuntime) -> Result<(), Fail> {
-    play(&rt, rt.alloc(), Profile::Three, FLOATS, 13)
+    play(&rt, rt.alloc(), Profile::THREE, FLOATS, 13)
 }

@@ -93,7 +93,7 @@ segments: [Segment { memory: 0, offset: Global(0), bytes: [0, 255] }] }",
 
 /// Returns the module that the bytes spell, valid or not.
 fn module_of(rt: &impl Abort, alloc: Global, input: &[u8]) -> Module {
-    let mut decoder = Decoder::new(alloc, Builder::new(alloc), Profile::Three, 1000);
+    let mut decoder = Decoder::new(alloc, Builder::new(alloc), Profile::THREE, 1000);
     decoder.feed(input).expect(rt, "what begins a module");
     let builder = decoder.finish().expect(rt, "a whole module");
     builder.into_module()

@@ -1,5 +1,5 @@
 use Rattle.std.proofs.Common.{subst, sym}
-use Rattle.wm_syntax.specs.declared.profile.Profile.TheVariants.{Four}
+use Rattle.wm_syntax.specs.Profiles.{four}
 use Rattle.wm_machine.specs.Sections.{SpellsModule}
 use Rattle.wm_machine.proofs.OneSpelling.{one_spelling}
 use Rattle.wm_write.specs.Canon.{canon}
@@ -9,5 +9,5 @@ use Rattle.wm_write.proofs.laws.one_canon_one_module.Goals as goal
 
 pub returns : goal.returns
 returns c = λ m n h fit k fits same.
-    one_spelling Four Four m n (canon m) (spells Four m (locals_of_four m) h fit)
-    (subst (SpellsModule Four n) (sym same) (spells Four n (locals_of_four n) k fits))
+    one_spelling four four m n (canon m) (spells four m (locals_of_four m) h fit)
+    (subst (SpellsModule four n) (sym same) (spells four n (locals_of_four n) k fits))
