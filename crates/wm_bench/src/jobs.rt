@@ -171,7 +171,7 @@ impl Bench {
             for shape in SHAPES {
                 make(&mut binary, shape, &mut self.random, size)?;
                 let terms = Terms {
-                    profile: Profile::One,
+                    profile: Profile::ONE,
                     policy: if turn % 8 == 6 {
                         policy
                     } else {

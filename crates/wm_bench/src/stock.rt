@@ -185,9 +185,9 @@ impl Numbers<'_> {
         let constants = self.places(alloc, constants)?;
         let letters = self.places(alloc, letters)?;
         let profile = if profile == 1 {
-            Profile::One
+            Profile::ONE
         } else {
-            Profile::Three
+            Profile::THREE
         };
         let (front, rest) = self.rest.split_at(size.min(self.rest.len()));
         let bytes = front.to_vec(alloc)?;
