@@ -11,6 +11,8 @@ use wm_syntax::profile::Profile;
 pub struct Decoder<S> {
     pub(crate) sink: S,
     pub(crate) machine: Machine,
+    // the index of the last member of the section, if the machine is inside a member
+    pub(crate) last_member: u32,
     pub(crate) name: Vec<u8>,
     pub(crate) at: u64,
     pub(crate) max_bytes: u64,

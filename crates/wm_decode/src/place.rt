@@ -1,0 +1,140 @@
+//! The section that a byte lies in, and its place there.
+
+ghost use Rattle.std.specs.Prelude.{◌≡◌, ◌+◌, ◌-◌, ◌<◌, ◌≤◌, ◌++◌, ℕ, List, length, slice_get, take};
+ghost use Rattle.wm_syntax.specs.declared.profile.Profile.{Profile as AProfile};
+ghost use Rattle.wm_decode.specs.exact.Awaited.{machine_from, spot_in};
+ghost use Rattle.wm_decode.specs.inner.Places.{IsAfter, spot_after, spot_of};
+
+use crate::place::awaits::{Awaits, in_custom, in_member};
+use wm_machine::machine::Machine;
+use wm_machine::step::step;
+use wm_syntax::profile::Profile;
+
+pub(crate) mod awaits;
+
+/// Where a byte lies in a module.
+#[derive(Clone, Copy, PartialEq, Eq, Debug)]
+pub struct Place {
+    /// The id of its section: 0 for a custom section, else 1 to 11. Core spec 5.5.2.
+    pub section: u8,
+    /// The number of members of the section before the one that it lies in. `None` in the size and the member count of
+    /// a section, and in a custom section. The start function is the one member of its section. No contract pins this
+    /// field; it is tested.
+    pub item: Option<u32>,
+    /// The part of the format that it belongs to.
+    pub awaits: Awaits,
+}
+
+/// The state of a decoder between two bytes, without its sink and without the bytes of an unfinished name.
+#[derive(Clone, Copy)]
+pub struct Snapshot {
+    pub(crate) profile: Profile,
+    pub(crate) machine: Machine,
+    // the index of the last member of the section, if the machine is inside a member
+    pub(crate) last_member: u32,
+    // the number of bytes read
+    pub(crate) at: u64,
+}
+
+/// Whether the machine is outside the members of a section.
+#[inline(always)]
+pub(crate) fn is_outside(machine: &Machine) -> bool {
+    !matches!(machine, Machine::Section { .. })
+}
+
+/// Returns the index of the last member of the section if its first member begins; else returns `last_member`.
+pub(crate) fn begun(machine: &Machine, last_member: u32) -> u32 {
+    match machine {
+        Machine::Section { left, .. } => *left,
+        _ => last_member,
+    }
+}
+
+// Returns the id of the section and the part that comes next, or `None` in the header and before the id of a section
+fn spot(machine: &Machine) -> Option<(u8, Awaits)>
+    ensures { result ≡ spot_in machine.now }
+{
+    match *machine {
+        Machine::Header(_) | Machine::Between { .. } | Machine::Refused(_) => None,
+        Machine::CustomSize { .. } => Some((0, Awaits::Number)),
+        Machine::Custom { part, .. } => Some((0, in_custom(part))),
+        Machine::Size { of, .. } | Machine::Count { of, .. } => Some((of.id(), Awaits::Number)),
+        Machine::Section { of, at, .. } => Some((of.id(), in_member(at))),
+    }
+}
+
+impl Snapshot {
+    /// Returns the place of the next byte. Returns `None` in the header, and before the id of a section.
+    pub fn place(&self) -> Option<Place>
+        ensures spot { spot_of result ≡ spot_in self.now.machine }
+        ensures after { (p : AProfile) (bytes : List ℕ) → IsAfter self.now p bytes
+            → spot_of result ≡ spot_after p bytes }
+    {
+        match spot(&self.machine) {
+            Some((section, awaits)) => Some(Place {
+                section,
+                item: self.item(),
+                awaits,
+            }),
+            None => None,
+        }
+    }
+
+    fn item(&self) -> Option<u32> {
+        match self.machine {
+            Machine::Section { left, .. } => self.last_member.checked_sub(left),
+            _ => None,
+        }
+    }
+
+    // Returns the state after further bytes, which takes the slow path over them
+    fn replayed(&self, piece: &[u8]) -> Snapshot
+        ensures profile { result.profile ≡ self.now.profile }
+        ensures machine { result.machine ≡ machine_from self.now.profile self.now.machine piece.now }
+    {
+        let mut machine = self.machine;
+        let mut last_member = self.last_member;
+        for byte in piece {
+            let outside = is_outside(&machine);
+            let _ = step(self.profile, &mut machine, *byte);
+            if outside {
+                last_member = begun(&machine, last_member);
+            }
+        }
+        Snapshot {
+            profile: self.profile,
+            machine,
+            last_member,
+            at: self.at,
+        }
+    }
+
+    // Returns the index in the next piece of the byte at this offset, or 0 if the piece begins after it
+    fn index(&self, at: u64) -> u64
+        ensures { result ≡ at - self.now.at - 1 }
+    {
+        at.saturating_sub(self.at).saturating_sub(1)
+    }
+
+    /// Returns the place of the byte at this offset of the input, if it is in the next piece. An offset is the number
+    /// of bytes up to and including the byte.
+    pub fn place_in(&self, piece: &[u8], at: u64) -> Option<Place>
+        ensures { (p : AProfile) (bytes : List ℕ) → IsAfter self.now p bytes → length bytes < at
+            → at ≤ length (bytes ++ piece.now)
+            → spot_of result ≡ spot_after p (take (at - 1) (bytes ++ piece.now)) }
+    {
+        let before = self.index(at).min(piece.len() as u64);
+        self.replayed(&piece[..before as usize]).place()
+    }
+
+    /// Returns the byte at this offset of the input, or `None` if it is not in the next piece.
+    pub fn byte_in(&self, piece: &[u8], at: u64) -> Option<u8>
+        ensures { (p : AProfile) (bytes : List ℕ) → IsAfter self.now p bytes → length bytes < at
+            → result ≡ slice_get (bytes ++ piece.now) (at - 1) }
+    {
+        if at <= self.at {
+            return None;
+        }
+        piece.get(self.index(at) as usize).copied()
+    }
+}
