@@ -7,6 +7,7 @@ ghost use Rattle.wm_rules.specs.inner.Loading.{HasReadSome};
 use crate::both::Both;
 use crate::builder::Builder;
 use crate::checker::Checker;
+use crate::found::Found;
 use wm_decode::{Decoder, Refusal};
 use wm_syntax::modules::Module;
 
@@ -17,9 +18,11 @@ pub struct Checked {
     ghost loaded: { ∥ IsLoaded (value_of module_value) ∥₁ },
 }
 
-/// Loads a module that comes in pieces. After a refusal it holds only the refusal.
+/// Loads a module that comes in pieces. After a refusal it holds only the refusal, and what it found there.
 #[derive(Debug, Drop)]
 pub struct Loader {
     pub(crate) state: Result<Decoder<Both<Checker, Builder>>, Refusal>,
+    // set by a refusal
+    pub(crate) found: Found,
     ghost read: { ∥ HasReadSome state ∥₁ },
 }

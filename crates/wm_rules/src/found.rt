@@ -1,0 +1,63 @@
+//! The byte that was refused and its place in the module, for a message to a user.
+
+ghost use Rattle.std.specs.Prelude.{◌<◌, ◌≤◌, ◌++◌, ℕ, List, length};
+ghost use Rattle.wm_syntax.specs.declared.profile.Profile.{Profile as AProfile};
+ghost use Rattle.wm_decode.specs.inner.Places.{IsAfter};
+ghost use Rattle.wm_rules.specs.inner.Finding.{IsFound};
+
+use wm_decode::{Place, Refusal, Snapshot};
+use wm_syntax::why::Why;
+
+/// The numbers of imported functions and globals. They have the lowest indices of their index spaces. Core spec 2.5.1.
+#[derive(Clone, Copy, PartialEq, Eq, Debug)]
+pub struct Imported {
+    pub functions: u64,
+    pub globals: u64,
+}
+
+/// What is known of the module where it was refused.
+#[derive(Clone, Copy, PartialEq, Eq, Debug)]
+pub struct Found {
+    /// The refused byte. `None` if the end of the input, the limit or memory decided.
+    pub byte: Option<u8>,
+    /// The place of the refused byte, or of the end of the input.
+    pub place: Option<Place>,
+    /// The imports so far. No contract pins this field; it is tested.
+    pub imported: Imported,
+}
+
+impl Found {
+    /// What is known before the first byte.
+    pub(crate) fn nothing() -> Found {
+        Found {
+            byte: None,
+            place: None,
+            imported: Imported {
+                functions: 0,
+                globals: 0,
+            },
+        }
+    }
+
+    /// Returns what is known of a refused byte of a piece, for a decoder that was in the state `before`.
+    pub(crate) fn in_piece(
+        before: &Snapshot,
+        piece: &[u8],
+        refusal: Refusal,
+        imported: Imported,
+    ) -> Found
+        ensures { (p : AProfile) (bytes : List ℕ) → IsAfter before.now p bytes → length bytes < refusal.at
+            → refusal.at ≤ length (bytes ++ piece.now)
+            → IsFound result p (bytes ++ piece.now) refusal }
+    {
+        let byte = match refusal.why {
+            Why::TooLong | Why::Memory => None,
+            _ => before.byte_in(piece, refusal.at),
+        };
+        Found {
+            byte,
+            place: before.place_in(piece, refusal.at),
+            imported,
+        }
+    }
+}
