@@ -11,7 +11,8 @@ It ends with status 1 if one of these tests fails:
 - the samples read a million nested blocks on a stack of 64 KiB;
 - input that cannot be read gets no answer;
 - a call takes NULL for no bytes, and for a buffer without room;
-- each call of c_rows.txt, made in order, has the answer of its row.
+- each call of c_rows.txt, made in order, has the answer of its row;
+- wmod_explain writes the sentences of `wmod explain` for each number of the header, and nothing for another number.
 
 Without a C compiler it says so and tests nothing. That is a failure if the variable CI is `true`.
 """
@@ -26,10 +27,11 @@ sys.dont_write_bytecode = True
 import deep
 import growths
 import needs
+import refusals
 
 HERE = os.path.dirname(os.path.abspath(__file__))
 CRATE = os.path.join(HERE, "../crates/wm_c")
-SAMPLES = ["check", "convert"]
+SAMPLES = ["check", "convert", "explain"]
 STRICT = ["-pedantic", "-Wall", "-Wextra", "-Werror", f"-I{CRATE}/include"]
 LANGUAGES = [["cc", "-std=c89", *STRICT], ["c++", "-x", "c++", "-std=c++98", "-Wno-long-long", *STRICT]]
 MODULES = 1000
@@ -37,7 +39,7 @@ MODULES = 1000
 STACK = 64
 # the rows of calls, and their least number, so that no row is lost by accident
 ROWS = os.path.join(HERE, "c_rows.txt")
-LEAST = 98
+LEAST = 117
 # the inputs that c_rows.txt names: a function that adds two numbers, one that extends a byte, a text with a keyword of
 # older tools, and a text whose module is not valid
 INPUTS = {
@@ -62,7 +64,11 @@ canon a module 5 0 8
 show a module 5 0 9
 build a text 5 0 8
 why_name 5
+explain 201
 """
+# the numbers that wmod_explain is asked for, and the capacity that the header promises to suffice
+NUMBERS = range(300)
+CAPACITY = 1024
 
 
 def made(number):
@@ -176,6 +182,23 @@ def rows():
     return [re.sub(rf" ({'|'.join(INPUTS)}) = ", lambda found: f" {INPUTS[found[1]]} = ", row) for row in lines]
 
 
+def are_all_explained(room):
+    """Whether wmod_explain has the sentences of each refusal of the header, and none for another number."""
+    texts = dict(refusals.explanations(refusals.TOP))
+    given = [f"explain {number} {CAPACITY}" for number in NUMBERS]
+    status, written = line([f"{room}/c_rows"], "".join(f"{row}\n" for row in given).encode())
+    said = [texts.get(number, "") for number in NUMBERS]
+    # c_rows prints `|` for a line feed, `0` for the end, and `?` for each byte that was not written
+    buffers = [(text.replace("\n", "|") + "0").ljust(CAPACITY, "?") for text in said]
+    wanted = [f"{row} = {len(text)} {buffer}" for row, text, buffer in zip(given, said, buffers)]
+    found = written.decode("ascii", "replace").splitlines()
+    wrong = [f"{answer:.200}" for answer, row in zip(found, wanted) if answer != row]
+    if status or len(found) != len(wanted):
+        wrong.append(f"status {status} after {len(found)} numbers")
+    print(f"C: {len(texts)} refusals explained: " + (f"wrong: {'; '.join(wrong[:3])}" if wrong else "ok"), flush=True)
+    return not wrong
+
+
 def are_rows_right(room):
     """Whether each call has the answer of its row."""
     wanted = rows()
@@ -207,7 +230,7 @@ def is_well(archive, program):
         fault = compiled(archive, room)
         wrong = [fault] if fault else [it for number in range(MODULES) for it in differences(room, program, number)]
         print(f"C: {MODULES} modules by C and by wmod: " + (f"wrong: {'; '.join(wrong[:3])}" if wrong else "ok"), flush=True)
-        return not wrong and all([is_bare(room), are_rows_right(room), is_unanswered(room, program), sweep(room), is_flat(room)])
+        return not wrong and all([is_bare(room), are_rows_right(room), are_all_explained(room), is_unanswered(room, program), sweep(room), is_flat(room)])
 
 
 if __name__ == "__main__":

@@ -8,6 +8,7 @@
  *   held                                                  1 if the handle holds something, else 0
  *   canon, show or build: ROOM OPTIONS INPUT              the status, the four fields of the output, and the buffer
  *   name NUMBER ROOM                                      the length and the buffer, with `0` for its end
+ *   explain NUMBER ROOM                                   the same, with `|` for a line feed
  *   version                                               the version of the library
  *
  * OPTIONS are all seven options, with `-` for no limit. INPUT is in hexadecimal digits: `H` is the header, and `.` is
@@ -19,7 +20,7 @@
 #include <stdlib.h>
 #include <string.h>
 
-enum { LINE = 1000, ROOM = 100, HEADER = 8 };
+enum { LINE = 1000, ROOM = WMOD_EXPLAIN_ROOM, HEADER = 8 };
 
 static const uint8_t header[HEADER] = {0, 'a', 's', 'm', 1, 0, 0, 0};
 /* the unread rest of the line */
@@ -144,15 +145,16 @@ static void convert(const char *name) {
   say_room(out, room, *name != 's');
 }
 
-static void why_name(void) {
+/* Makes one of the two calls that write a text about a refusal. */
+static void words_of(size_t (*call)(uint32_t, char *, size_t)) {
   char out[ROOM];
   uint32_t why = (uint32_t)number();
   size_t i, length, room = (size_t)number();
   if (room > ROOM) fail("too much room");
   memset(out, '?', room);
-  length = wmod_why_name(why, out, room);
+  length = call(why, out, room);
   printf("%lu ", (unsigned long)length);
-  for (i = 0; i < room; i++) putchar(out[i] ? out[i] : '0');
+  for (i = 0; i < room; i++) putchar(out[i] == '\n' ? '|' : out[i] ? out[i] : '0');
 }
 
 /* Makes a call on the handle. */
@@ -195,7 +197,8 @@ int main(void) {
     word(name, sizeof name);
     if (strcmp(name, "validate") == 0 || strcmp(name, "with") == 0) whole(*name == 'w');
     else if (strcmp(name, "canon") == 0 || strcmp(name, "show") == 0 || strcmp(name, "build") == 0) convert(name);
-    else if (strcmp(name, "name") == 0) why_name();
+    else if (strcmp(name, "name") == 0) words_of(wmod_why_name);
+    else if (strcmp(name, "explain") == 0) words_of(wmod_explain);
     else if (strcmp(name, "version") == 0) say(wmod_version());
     else piecewise(&v, name);
     putchar('\n');

@@ -13,7 +13,7 @@ import tempfile
 
 # the rows, and their least number, so that no row is lost by accident
 ROWS = pathlib.Path(__file__).resolve().parent / "command_rows.txt"
-LEAST = 74
+LEAST = 76
 TYPED = b"(module)"
 FILES = {
     "sign.wasm": bytes.fromhex("0061736D01000000 01050160 00017F 03020100 0A08010600 41FF01 C0 0B"),

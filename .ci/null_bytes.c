@@ -41,5 +41,6 @@ int main(void) {
   status = wmod_build(text, sizeof text, &options, NULL, 0, &output);
   say("build a text", status, output.why, output.length);
   printf("why_name %lu\n", (unsigned long)wmod_why_name(WMOD_WHY_MAGIC, NULL, 0));
+  printf("explain %lu\n", (unsigned long)wmod_explain(WMOD_WHY_MANY_LOCALS, NULL, 0));
   return 0;
 }

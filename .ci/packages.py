@@ -27,6 +27,8 @@ STRICT = ["-pedantic", "-Wall", "-Wextra", "-Werror", "-pthread"]
 LANGUAGES = {"C89": ["cc", "-std=c89"], "C++98": ["c++", "-x", "c++", "-std=c++98", "-Wno-long-long"]}
 # the policy that each sample sets, as options of the program
 POLICIES = {"upload": "--limit 1000000 --max-functions 10000 --max-locals 1000 --max-open 500", "threads": "", "check": ""}
+# the sample that explains a refusal, under the policy of `wmod check`
+EXPLAINS = "explain"
 MODULES = 40
 # the completions that bash must offer for the last of these words, and no others
 COMPLETED = {
@@ -139,7 +141,7 @@ def compiled(it):
         it.said.append("no libc.a")
     flags, made = it.flags("--cflags"), {}
     for language, words in LANGUAGES.items():
-        for name in POLICIES:
+        for name in [*POLICIES, EXPLAINS]:
             whole = [*words, *STRICT, *flags, it.pages / f"samples/{name}.c", "-x", "none"]
             for way, linked in ways.items():
                 made[name, language, way] = it.room / f"{name}-{language}-{way}"
@@ -162,6 +164,22 @@ def check_samples(it, made):
             check_stops(sample)
 
 
+def check_explained(it, made):
+    """Checks that the sample explain.c prints the line of wmod and the sentences of `wmod explain`."""
+    for number in range(MODULES):
+        module, _ = c_calls.made(number)
+        status, line = run(it.program, "check", "-", given=module, wanted=None)
+        wanted = [line]
+        if status:
+            # a NAME of a module and of a text has the sentences for modules first
+            _, means, _, _, advice, *_ = run(it.program, "explain", line.split()[-1]).splitlines(True)
+            wanted += [means.strip() + "\n", advice.replace("What to do: ", "").strip() + "\n"]
+        for key, sample in made.items():
+            if key[0] == EXPLAINS:
+                found, said = run(sample, given=module, wanted=None)
+                same(f"{key} of module {number}", (found, said.splitlines(True)), (status, wanted))
+
+
 def check_stops(sample):
     """Checks that the sample refuses a bad upload before its end, and an upload that is too long."""
     with subprocess.Popen([sample], stdin=subprocess.PIPE, stdout=subprocess.PIPE) as process:
@@ -179,7 +197,7 @@ def check_stops(sample):
 def check_memory(it, made):
     """Checks with valgrind that no sample reads bad memory or leaks."""
     words = ["valgrind", "-q", "--leak-check=full", "--show-leak-kinds=all", "--errors-for-leak-kinds=all", "--error-exitcode=99"]
-    for name in POLICIES if it.has("valgrind", "-q", "true") else ():
+    for name in [*POLICIES, EXPLAINS] if it.has("valgrind", "-q", "true") else ():
         sample = made[name, "C89", "archive"]
         for number in range(3):
             module, _ = c_calls.made(number)
@@ -361,6 +379,7 @@ def check_all(it):
     check_version(it)
     made = compiled(it)
     check_samples(it, made)
+    check_explained(it, made)
     check_memory(it, made)
     folder, answers = folder_of_modules(it)
     check_folder(it, folder, answers)

@@ -3,9 +3,10 @@
 
     .ci/refusals.py
 
-It prints each fault, and ends with status 1 if there is one. Both tables of the page must have the rows that wm_rows
-runs, with a row for each printed name. They must also have the lines of the table that `wmod explain` prints. The
-crate for cargo must have the numbers and NAMEs of the header, and the sentences of that table.
+It prints each fault, and ends with status 1 if there is one. Two tables of the page must have the rows that wm_rows
+runs, with a row for each printed name. The tables of the page must also have the lines that `wmod explain` prints.
+Each name of the header must have such a line. The crate for cargo must have the numbers and NAMEs of the header, and
+the sentences of these lines. c_calls.py compares the lines with the answers of `wmod_explain`.
 """
 import pathlib
 import re
@@ -16,7 +17,7 @@ PAGE = "docs/REFUSALS.md"
 ROWS = "crates/wm_rows/stdout"
 WORDS = "crates/wm_syntax/src/why.rt"
 TEXT_WORDS = "crates/wm_tokens/src/faults.rt"
-TABLE = "crates/wm_command/src/refusals.rt"
+TABLE = "crates/wm_refusals/src/tables.rt"
 HEADER = "crates/wm_c/include/wmod.h"
 CRATE = "rust/src/why.rs"
 
@@ -24,8 +25,9 @@ CRATE = "rust/src/why.rs"
 INPUTS = "# The smallest inputs of the refusals"
 TEXTS = "# The smallest texts of the refusals"
 
-# the names without a smallest text: the first needs gigabytes of text, and the second is never printed
-WITHOUT_TEXT = ["TooManyLocals", "Memory"]
+# the names without a smallest input: the first needs gigabytes of text, the second gigabytes of module, and the third
+# is never printed
+WITHOUT_INPUT = ["TooManyLocals", "TooLarge", "Memory"]
 
 
 def rows_of_page(page):
@@ -58,7 +60,7 @@ def rows_of_group(top, heading):
     return lines[first : lines.index("", first)]
 
 
-def words_without_text(page):
+def words_without_input(page):
     return re.findall(r"^\| `(\w+)` \|.*\| none[^|]* \|[^|]*\|$", page, re.M)
 
 
@@ -67,7 +69,7 @@ def printed_words(file, kind):
 
 
 def lines_of_tables(top):
-    """Yields the lines of each of the two constants, with escapes replaced."""
+    """Yields the lines of each of the three constants, with escapes replaced."""
     text = re.sub(r"\\\n\s*", "", (top / TABLE).read_text(encoding="utf8"))
     for lines in re.findall(r'(?m)^pub const \w+: &str = "(.*)";$', text):
         yield re.sub(r"\\(.)", lambda it: "\n" if it[1] == "n" else it[1], lines).split("\n")
@@ -89,16 +91,34 @@ def rows_of_crate(top):
         yield tuple(refusal), " ".join(line.strip().removeprefix("/// ") for line in comment.splitlines())
 
 
-def rows_of_header(top):
-    """Yields the same for the header, with the sentence of the table; None if the table has no such NAME."""
-    modules, texts = [dict(line.split(" | ")[:2] for line in lines) for lines in lines_of_tables(top)]
+def numbers_of_header(top):
+    """Yields the number and the NAME of each refusal of the header, its line in the tables, and whether it is one of a text.
+
+    The line has five parts. It is empty if the tables have no such NAME.
+    """
+    modules, texts, others = [{line.split(" | ")[0]: line.split(" | ") for line in lines} for lines in lines_of_tables(top)]
     row = re.compile(r"^  WMOD_(WHY|TEXT)_\w+ = (\d+),? /\* (\w+)", re.M)
     for kind, number, name in row.findall((top / HEADER).read_text(encoding="utf8")):
-        if kind == "WHY":
-            yield (number, name, name), modules.get(name)
+        is_text = kind == "TEXT"
+        yield number, name, (others | (texts if is_text else modules)).get(name, []), is_text
+
+
+def unexplained(top):
+    return [f"no line of {TABLE} has the name {name} of {HEADER}" for _, name, line, _ in numbers_of_header(top) if len(line) != 5]
+
+
+def explanations(top):
+    """Yields the number of each refusal of the header, and the text that `wmod_explain` must write for it."""
+    for number, _, (_, means, _, _, advice), _ in numbers_of_header(top):
+        yield int(number), f"{means}\n{advice}"
+
+
+def rows_of_header(top):
+    """Yields what `rows_of_crate` yields, by the header and the tables."""
+    for number, name, line, is_text in numbers_of_header(top):
         # the crate has one variant for both numbers of Memory
-        elif name != "Memory":
-            yield (number, name, f"Text{name}"), texts.get(name)
+        if not is_text or name != "Memory":
+            yield (number, name, f"Text{name}" if is_text else name), line[1] if line else None
 
 
 def unlike_crate(top):
@@ -124,11 +144,11 @@ def faults_of(top):
     page = (top / PAGE).read_text(encoding="utf8")
     words = printed_words(top / WORDS, "Why") - {"Memory"}
     faults = faults_of_rows(list(rows_of_page(page)), rows_of_group(top, INPUTS), words)
-    text_words = printed_words(top / TEXT_WORDS, "TextWhy") - set(WITHOUT_TEXT)
+    text_words = printed_words(top / TEXT_WORDS, "TextWhy") - set(WITHOUT_INPUT)
     faults += faults_of_rows(list(text_rows_of_page(page)), rows_of_group(top, TEXTS), text_words)
-    if words_without_text(page) != WITHOUT_TEXT:
-        faults.append(f"rows in {PAGE} without a smallest text: {words_without_text(page)}")
-    return faults + explained(top, page) + unlike_crate(top)
+    if words_without_input(page) != WITHOUT_INPUT:
+        faults.append(f"rows in {PAGE} without a smallest input: {words_without_input(page)}")
+    return faults + explained(top, page) + unexplained(top) + unlike_crate(top)
 
 
 def main():

@@ -16,7 +16,7 @@ import texts
 TOP = pathlib.Path(__file__).resolve().parent.parent
 HEADER = TOP / "crates/wm_c/include/wmod.h"
 # the lines that `wmod explain` prints, each with its NAME in front
-REFUSALS = TOP / "crates/wm_command/src/refusals.rt"
+REFUSALS = TOP / "crates/wm_refusals/src/tables.rt"
 PAGES = "share/doc/wmod"
 # the files beside the pages, by their folder there
 BESIDE = {"examples": "examples/*", "samples": "crates/wm_c/samples/*.c"}

@@ -10,6 +10,8 @@ pub(crate) const NO_ROOM: u32 = 5;
 pub(crate) const LIMIT_DEFAULT: u64 = 0xFFFF_FFFF;
 pub(crate) const LIMIT_MOST: u64 = 1 << 62;
 pub(crate) const NO_LIMIT: u64 = u64::MAX;
+#[cfg(test)]
+pub(crate) const EXPLAIN_ROOM: usize = 1024;
 
 #[repr(C)]
 #[derive(Default)]
@@ -62,6 +64,8 @@ extern "C" {
         answer: *mut Answer,
     ) -> u32;
     pub(crate) fn wmod_why_name(why: u32, name: *mut c_char, capacity: usize) -> usize;
+    #[cfg(test)]
+    pub(crate) fn wmod_explain(why: u32, text: *mut c_char, capacity: usize) -> usize;
     pub(crate) fn wmod_version() -> u32;
     pub(crate) fn wmod_begin_with(v: *mut Validator, options: *const Options) -> u32;
     pub(crate) fn wmod_feed(v: *mut Validator, piece: *const u8, length: usize) -> u32;
@@ -138,6 +142,7 @@ mod tests {
             "WMOD_PROFILE_3 3\nWMOD_PROFILE_4 4\n".into(),
             format!("WMOD_LIMIT_DEFAULT {LIMIT_DEFAULT}\nWMOD_LIMIT_MOST {LIMIT_MOST}\n"),
             format!("WMOD_NO_LIMIT {NO_LIMIT}\n"),
+            format!("WMOD_EXPLAIN_ROOM {EXPLAIN_ROOM}\n"),
         ]
         .concat();
         assert_eq!(found, include_str!("../layout.txt"));

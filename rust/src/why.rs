@@ -235,6 +235,27 @@ mod tests {
         }
     }
 
+    /// The meaning of a refusal by the library: the first of the two lines of its text.
+    fn meaning(number: u32) -> String {
+        let mut text = [0_u8; sys::EXPLAIN_ROOM];
+        // SAFETY: pointer and length are those of one array.
+        let length = unsafe { sys::wmod_explain(number, text.as_mut_ptr().cast(), text.len()) };
+        let text = std::str::from_utf8(&text[..length]).unwrap();
+        text.lines().next().unwrap_or_default().to_owned()
+    }
+
+    #[test]
+    fn the_library_has_the_same_sentences() {
+        for number in NUMBERS {
+            match Why::of(number) {
+                Why::Other(name) => assert_eq!((name.as_str(), meaning(number).as_str()), ("", "")),
+                why => assert_eq!(why.explain(), meaning(number), "{number}"),
+            }
+        }
+        // the second number of `Memory`
+        assert_eq!(Why::Memory.explain(), meaning(120));
+    }
+
     #[test]
     fn sentences_of_one_line_and_of_two() {
         assert_eq!(

@@ -30,7 +30,7 @@ extern "C" {
 /* The version of the interface in this file; wmod_version() returns that of the library. A change that breaks callers
  * raises the major number, an addition the minor one. */
 #define WMOD_VERSION_MAJOR 1
-#define WMOD_VERSION_MINOR 1
+#define WMOD_VERSION_MINOR 2
 #define WMOD_VERSION (WMOD_VERSION_MAJOR * 65536u + WMOD_VERSION_MINOR)
 
 /* The release, as `wmod --version` and `pkg-config --modversion wmod` print it. */
@@ -54,7 +54,7 @@ extern "C" {
 #define WMOD_LIMIT_DEFAULT ((uint64_t)0xFFFFFFFFu)
 #define WMOD_LIMIT_MOST ((uint64_t)1 << 62)
 
-/* Why an input is refused. docs/REFUSALS.md explains each reason, with a small input that gives it. */
+/* Why an input is refused. wmod_explain explains each reason. docs/REFUSALS.md also has a small input that gives it. */
 enum {
   WMOD_WHY_MAGIC = 1, /* Magic */
   WMOD_WHY_VERSION = 2, /* Version */
@@ -202,6 +202,14 @@ uint32_t wmod_build(const uint8_t *text, size_t length, const wmod_options *opti
 /* Writes the name of a refusal, such as `BadOpcode`, and a 0 after it, as far as there is room. The last byte written
  * is 0 unless capacity is 0. Returns the length of the name, or 0 if the number is none of the above. */
 size_t wmod_why_name(uint32_t why, char *name, size_t capacity);
+
+/* Writes what a refusal means, a line feed, what to do about it, and a 0, as far as there is room: the sentences of
+ * `wmod explain NAME`. They name the options of the command, such as `--max-locals` for `locals` of wmod_options. In
+ * the sentences on a text, N is `at`. The last byte written is 0 unless capacity is 0. Returns the length of the text,
+ * or 0 if the number is none of the above. WMOD_EXPLAIN_ROOM is a capacity that suffices for each text of this
+ * release. */
+#define WMOD_EXPLAIN_ROOM 1024
+size_t wmod_explain(uint32_t why, char *text, size_t capacity);
 
 /* Returns WMOD_VERSION of the library. */
 uint32_t wmod_version(void);

@@ -1,9 +1,11 @@
--- The names of refusals, and the buffer that a name is written to.
+-- The names and the explanations of refusals, and the buffer that they are written to.
 use Rattle.std.specs.Prelude.{◌≡◌, ◌++◌, ◌∷◌, ◌⊎◌, ℕ, List, [], codes, length, drop, take, min}
 use Rattle.wm_syntax.specs.declared.why.Why.{Why}
 use Rattle.wm_syntax.specs.Refusals as modules
 use Rattle.wm_tokens.specs.declared.faults.TextWhy.{TextWhy}
 use Rattle.wm_tokens.specs.Faults as texts
+use Rattle.wm_refusals.specs.Rows.{IsRowOfModule, IsRowOfText}
+use Rattle.wm_refusals.specs.declared.rows.Row.{Row}
 use Rattle.wm_c.specs.Codes.{text_code, why_code}
 
 -- The buffer after a word is written to it: as much of the word as leaves room for a 0, then the 0. The bytes after
@@ -22,3 +24,13 @@ abbrev pub HasName : ℕ → List ℕ → Type 0
 HasName n word = ((w : Why) × (n ≡ why_code w) × (word ≡ modules.name_of w))
     ⊎ ((w : TextWhy) × (n ≡ text_code w) × (word ≡ texts.text_name_of w))
     ⊎ ((n ≡ 100) × (word ≡ codes "TooLarge"))
+
+-- The row is one of the refusal with this number, in the tables of `wmod explain`.
+abbrev pub HasRow : ℕ → Row → Type 0
+HasRow n row = ((w : Why) × (n ≡ why_code w) × IsRowOfModule (modules.name_of w) row)
+    ⊎ ((w : TextWhy) × (n ≡ text_code w) × IsRowOfText (texts.text_name_of w) row)
+    ⊎ ((n ≡ 100) × IsRowOfModule (codes "TooLarge") row)
+
+-- The text for a row: what the refusal means, a line feed, and what to do.
+abbrev pub explanation : Row → List ℕ
+explanation row = (row.means.now ++ 10 ∷ []) ++ row.advice.now

@@ -1,10 +1,12 @@
-//! The calls for the name of a refusal and for the version.
+//! The calls for the name of a refusal, for its meaning and for the version.
 
-ghost use Rattle.std.specs.Prelude.{◌≡◌, ℕ, List, [], length};
-ghost use Rattle.wm_c.specs.Names.{HasName, IsWritten};
+ghost use Rattle.std.specs.Prelude.{◌≡◌, ◌≢◌, ◌++◌, ◌∷◌, ℕ, List, [], IfSome, None, length};
+ghost use Rattle.wm_c.specs.Names.{HasName, HasRow, IsWritten, explanation};
+ghost use Rattle.wm_refusals.specs.declared.rows.Row.{Row as ARow};
 
 use crate::codes::{text_of, why_of};
 use crate::output::TOO_LARGE;
+use wm_refusals::rows::{Row, row_of_module, row_of_text};
 
 /// Writes the name of a refusal and a 0, as far as there is room. Returns the length of the name in bytes, or 0 if
 /// no refusal has this number.
@@ -46,10 +48,65 @@ fn write(word: &[u8], to: &mut [u8])
     rest[0] = 0;
 }
 
+/// Writes what a refusal means, a line feed, what to do about it and a 0, as far as there is room. Returns the length of
+/// the text in bytes, or 0 if no refusal has this number.
+#[unsafe(no_mangle)]
+pub extern "C" fn wmod_explain(why: u32, text: &mut [u8]) -> usize
+    // The text is that of a row for this number.
+    ensures written { result ≢ 0 → (row : ARow) × HasRow why row × (result ≡ length (explanation row))
+        × IsWritten (explanation row) text.old text.new }
+    ensures empty { result ≡ 0 → IsWritten [] text.old text.new }
+    ensures none { ((word : List ℕ) → HasName why word → ⊥) → result ≡ 0 }
+{
+    let Some(row) = row_of(why) else {
+        write(b"", text);
+        return 0;
+    };
+    write_lines(row.means.as_bytes(), row.advice.as_bytes(), text);
+    row.means.len() + 1 + row.advice.len()
+}
+
+/// Returns the row of the refusal with this number in the tables of `wmod explain`.
+fn row_of(why: u32) -> Option<Row<'static>>
+    ensures row { IfSome result (λ row. HasRow why row) }
+    ensures none { ((word : List ℕ) → HasName why word → ⊥) → result ≡ None }
+{
+    if let Some(why) = why_of(why) {
+        return row_of_module(why.name());
+    }
+    if let Some(why) = text_of(why) {
+        return row_of_text(why.name());
+    }
+    if why == TOO_LARGE {
+        row_of_module("TooLarge")
+    } else {
+        None
+    }
+}
+
+/// Writes two lines with a line feed between them, as `write` writes a word.
+fn write_lines(one: &[u8], other: &[u8], to: &mut [u8])
+    ensures { IsWritten ((one.now ++ 10 ∷ []) ++ other.now) to.old to.new }
+{
+    write(one, to);
+    append(one.len(), b"\n", to);
+    append(one.len() + 1, other, to);
+}
+
+/// Writes a word behind another one, which was written and has `n` bytes.
+fn append(n: usize, word: &[u8], to: &mut [u8])
+    ensures { (front : List ℕ) (before : List ℕ) → n ≡ length front → IsWritten front before to.old
+        → IsWritten (front ++ word.now) before to.new }
+{
+    if n < to.len() {
+        write(word, &mut to[n..]);
+    }
+}
+
 /// Returns the version of the interface, as `WMOD_VERSION` of the header: major * 65536 + minor.
 #[unsafe(no_mangle)]
 pub extern "C" fn wmod_version() -> u32
-    ensures { result ≡ 65537 }
+    ensures { result ≡ 65538 }
 {
-    (1 << 16) + 1
+    (1 << 16) + 2
 }

@@ -9,55 +9,14 @@ use crate::answer::answer;
 use crate::arguments::LineFault;
 use crate::complaint::{Escaped, complain, complain_of};
 use crate::line::help_text;
-use crate::refusals::{OF_MODULES, OF_TEXTS};
 use crate::status::Status;
 use crate::witness::Witness;
 use std::alloc::{AllocError, Global};
 use std::{fmt, io};
+use wm_refusals::rows::Row;
+use wm_refusals::tables::{OF_MODULES, OF_TEXTS, OTHERS};
 use wm_syntax::io::Dest;
 use wm_syntax::io::output::Output as OutputOf;
-
-/// A line of the tables of refusals.
-#[derive(Clone, Copy)]
-struct Refusal<'a> {
-    name: &'a str,
-    means: &'a str,
-    section: &'a str,
-    input: &'a str,
-    advice: &'a str,
-}
-
-impl<'a> Refusal<'a> {
-    fn of(line: &'a str) -> Option<Refusal<'a>> {
-        let (name, rest) = line.split_once(" | ")?;
-        let (means, rest) = rest.split_once(" | ")?;
-        let (section, rest) = rest.split_once(" | ")?;
-        let (input, advice) = rest.split_once(" | ")?;
-        Some(Refusal {
-            name,
-            means,
-            section,
-            input,
-            advice,
-        })
-    }
-}
-
-impl fmt::Display for Refusal<'_> {
-    fn fmt<W: fmt::Write>(&self, f: &mut fmt::Formatter<W>) -> fmt::Result {
-        let Refusal {
-            name,
-            means,
-            section,
-            input,
-            advice,
-        } = self;
-        write!(
-            f,
-            "{name}\n  {means}\n  Standard: {section}\n  Smallest input: {input}\n  What to do: {advice}\n"
-        )
-    }
-}
 
 /// Why `explain` has nothing to explain.
 #[derive(Drop)]
@@ -174,14 +133,18 @@ fn out_of_memory<R: Eprint>(rt: &R) -> Result<Status, LineFault>
     Err(LineFault::Memory)
 }
 
-/// Returns the explanations of this NAME, as a refusal of a module and of a text. ASCII case is ignored. Empty if no
-/// refusal has it.
+/// Returns the explanations of this NAME, one for each of its rows. ASCII case is ignored. Empty if no refusal has
+/// it.
 fn explained(alloc: Global, name: &str) -> Result<String, AllocError> {
     let mut text = String::new(alloc);
-    for line in OF_MODULES.lines().chain(OF_TEXTS.lines()) {
-        match Refusal::of(line) {
-            Some(refusal) if refusal.name.eq_ignore_ascii_case(name) => {
-                let said = format!(in alloc; "{refusal}")?;
+    for line in OF_MODULES
+        .lines()
+        .chain(OF_TEXTS.lines())
+        .chain(OTHERS.lines())
+    {
+        match Row::of(line) {
+            Some(row) if row.name.eq_ignore_ascii_case(name) => {
+                let said = format!(in alloc; "{row}")?;
                 text.push_str(said.as_str())?;
             }
             _ => {}
@@ -195,18 +158,22 @@ fn explained(alloc: Global, name: &str) -> Result<String, AllocError> {
 fn nearest(alloc: Global, word: &str) -> Result<String, AllocError> {
     let mut names = String::new(alloc);
     let mut longest = 0;
-    for line in OF_MODULES.lines().chain(OF_TEXTS.lines()) {
-        let Some(refusal) = Refusal::of(line) else {
+    for line in OF_MODULES
+        .lines()
+        .chain(OF_TEXTS.lines())
+        .chain(OTHERS.lines())
+    {
+        let Some(row) = Row::of(line) else {
             continue;
         };
-        let shared = shared_front(refusal.name, word);
+        let shared = shared_front(row.name, word);
         if shared > longest {
             longest = shared;
             names.clear();
         }
-        if shared == longest && !names.as_str().split(' ').any(|name| name == refusal.name) {
+        if shared == longest && !names.as_str().split(' ').any(|name| name == row.name) {
             names.push(' ')?;
-            names.push_str(refusal.name)?;
+            names.push_str(row.name)?;
         }
     }
     Ok(names)

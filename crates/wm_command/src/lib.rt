@@ -11,7 +11,6 @@ pub mod explain;
 pub mod laws;
 pub mod line;
 mod position;
-mod refusals;
 pub mod run;
 pub mod status;
 pub mod witness;

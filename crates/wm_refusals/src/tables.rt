@@ -1,5 +1,5 @@
-//! The table of refusals, a line for each: the NAME, what it means, the standard's section, a smallest input
-//! and what to do. Both tables of `docs/REFUSALS.md` have these lines as their rows.
+//! The tables of refusals, a line for each: the NAME, what it means, the standard's section, a smallest input
+//! and what to do. The tables of `docs/REFUSALS.md` have these lines as their rows.
 
 /// Refusals of a module.
 pub const OF_MODULES: &str = "\
@@ -155,6 +155,11 @@ pub const OF_TEXTS: &str = "\
         locals.\n\
     Float | The text uses a floating-point type or instruction, but the profile has none. | 6.4.1, \
         6.5 | `(module(global f32))`: at 15 | The text may be right. Use `--profile 3`, or \
-        `--profile 4` for sign extension too.\n\
-    Memory | Memory ran out. The command never prints this name, and ends with status 4. | none | \
-        none | Give a smaller text, or more memory.";
+        `--profile 4` for sign extension too.";
+
+/// Refusals that no small input gives. `Memory` is one of a module and of a text.
+pub const OTHERS: &str = "\
+    TooLarge | The contents of a section of the built module have 2^32 bytes or more. | 5.5.2 | none \
+        below 4 GB | Write less code or data, or split the module.\n\
+    Memory | Memory was refused: nothing is known about the input. | none | none | Give a smaller \
+        input, or more memory.";
