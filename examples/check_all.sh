@@ -1,12 +1,12 @@
 #!/bin/sh
 # A build step: checks every .wasm file below a folder, one process per processor. Prints a line for each
-# refused module. Exits with 0 if all are accepted.
+# refused module, and more about it on standard error. Exits with 0 if all are accepted.
 #
 #   examples/check_all.sh FOLDER
 [ -d "$1" ] || { echo "no folder: $1" >&2; exit 2; }
 find "$1" -name '*.wasm' -print0 | xargs -0 -r -n 64 -P "$(nproc)" sh -c '
   status=0
   for file do
-    said=$(wmod check --limit 100000000 "$file" 2>&1) || { echo "$file: $said"; status=1; }
+    said=$(wmod check --limit 100000000 "$file") || { echo "$file: ${said:-no answer}"; status=1; }
   done
   exit $status' sh

@@ -198,8 +198,8 @@ fn errors_of_readers_are_kept(rt: HostRuntime) {
     };
     let mut source = Input::new(Witness::new(Reader::new(HEADER.as_slice(), failing)));
     let mut dest = Output::new(Vec::new(rt.alloc()));
-    let status = run_line(rt.alloc(), &plain_line(), &mut source, &mut dest);
-    assert!(rt; status == Status::Io);
+    let ended = run_line(rt.alloc(), &plain_line(), &mut source, &mut dest);
+    assert!(rt; ended.status == Status::Io);
     expect_kind(&rt, source.into_inner().error(), ErrorKind::Interrupted);
 }
 
@@ -212,8 +212,8 @@ fn expect_kept(rt: &impl Abort, alloc: Global, at: u32) {
     };
     let mut source = Input::new(Witness::new(HEADER.as_slice()));
     let mut dest = Output::new(Witness::new(Writer::new(alloc, failing)));
-    let status = run_line(alloc, &plain_line(), &mut source, &mut dest);
-    assert!(rt; status == Status::Io);
+    let ended = run_line(alloc, &plain_line(), &mut source, &mut dest);
+    assert!(rt; ended.status == Status::Io);
     assert!(rt; source.into_inner().error().is_none());
     expect_kind(rt, dest.into_inner().error(), ErrorKind::BrokenPipe);
 }

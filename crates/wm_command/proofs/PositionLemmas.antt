@@ -1,48 +1,40 @@
--- Lemmas about the line and the column of an offset: how the next byte changes them.
-use Rattle.std.proofs.Common.{◌≡◌, ◌≢◌, ◌<◌, ◌∙◌, ℕ, ◌+◌, ◌==◌, Bool, true, false, List, [], ◌∷◌, ◌++◌, ap, arith, cond, eq-eqb, get_or, length, length-append, refl, take}
-use Rattle.std.specs.List.{filter}
-use Rattle.std.proofs.lemmas.List.{take_more}
-use Rattle.std.proofs.lemmas.List.Elements.{filter-append}
-use Rattle.std.proofs.lemmas.List.Filters.{length-filter_more}
+-- Lemmas about the line of an offset: where it begins.
+use Rattle.std.proofs.Common.{◌≡◌, ◌<◌, ◌∙◌, ℕ, ◌+◌, ◌==◌, true, false, List, [], ◌∷◌, ◌++◌, ap, arith, cond, drop, get_or, length, refl, subst, sym, take, ◌≤◌, ◌-◌}
+use Rattle.std.specs.List.{list_any}
+use Rattle.std.proofs.Math.Seq.{take-length}
+use Rattle.std.proofs.lemmas.List.{drop_more, length-drop, take-append-drop}
 use Rattle.std.proofs.lemmas.List.Folds.{list_any-append}
-use Rattle.wm_command.specs.Refused.{begins_character, behind_last, column_at, line_at}
+use Rattle.wm_command.specs.Refused.{behind_last}
 
-behind_last-snoc : (c : ℕ) (xs : List ℕ) (x : ℕ) → behind_last c (xs ++ x ∷ []) ≡ cond (x == c) [] (behind_last c xs ++ x ∷ [])
-behind_last-snoc c [] x = grind arith
-behind_last-snoc c (y ∷ ys) x = grind (arith, list_any-append (λ z. z == c) ys (x ∷ []), behind_last-snoc c ys x)
+-- Without a c, the bytes after the last c are all bytes.
+pub behind_none : (c : ℕ) (xs : List ℕ) → list_any (λ y. y == c) xs ≡ false → behind_last c xs ≡ xs
+behind_none c [] is = refl
+behind_none c (x ∷ xs) is = ap (λ b. cond b (behind_last c xs) (x ∷ xs)) is
 
-length-filter_one : (test : ℕ → Bool) (x : ℕ) (b : Bool) → test x ≡ b → length (filter test (x ∷ [])) ≡ cond b 1 0
-length-filter_one test x b is = ap (λ z. length (cond z (x ∷ []) [])) is ∙ length_cond b where
-  length_cond : (b : Bool) → length (cond b (x ∷ []) []) ≡ cond b 1 0
-  length_cond true = refl
-  length_cond false = refl
+-- The bytes after a c, if no other c follows, are those after the last c.
+pub behind_found : (c : ℕ) (xs ys : List ℕ) → list_any (λ y. y == c) ys ≡ false → behind_last c (xs ++ c ∷ ys) ≡ ys
+behind_found c [] ys none = grind (arith, behind_none c ys none)
+behind_found c (x ∷ xs) ys none = grind (arith, list_any-append (λ y. y == c) xs (c ∷ ys), behind_found c xs ys none)
 
--- The bytes of a line before the next offset, by those before this one.
-behind_more : (text : List ℕ) (i : ℕ) (b : Bool) → i < length text → (get_or text i 0 == 10) ≡ b
-    → behind_last 10 (take (i + 1) text) ≡ cond b [] (behind_last 10 (take i text) ++ get_or text i 0 ∷ [])
-behind_more text i b lt is =
-    ap (behind_last 10) (take_more text i 0 lt) ∙ behind_last-snoc 10 (take i text) (get_or text i 0) ∙ ap (λ z. cond z [] (behind_last 10 (take i text) ++ get_or text i 0 ∷ [])) is
+last_part : (bytes : List ℕ) (i : ℕ) → i < length bytes → get_or bytes i 0 ≡ 10 → list_any (λ y. y == 10) (drop (i + 1) bytes) ≡ false → behind_last 10 bytes ≡ drop (i + 1) bytes
+last_part bytes i lt is none =
+    let rest = drop (i + 1) bytes in
+    let whole : take i bytes ++ 10 ∷ rest ≡ bytes =
+    ap (λ z. take i bytes ++ z ∷ rest) (sym is) ∙ ap (λ z. take i bytes ++ z) (sym (drop_more bytes i 0 lt)) ∙ take-append-drop i bytes
+    in ap (behind_last 10) (sym whole) ∙ behind_found 10 (take i bytes) rest none
 
-line_more : (text : List ℕ) (i : ℕ) (b : Bool) → i < length text → (get_or text i 0 == 10) ≡ b → line_at text (i + 1) ≡ line_at text i + cond b 1 0
-line_more text i b lt is =
-    let more = length-filter_more (λ c. c == 10) text i 0 lt ∙ ap (λ z. length (filter (λ c. c == 10) (take i text)) + cond z 1 0) is in
-    omega (arith, more)
+-- The last line begins after the line feed before it.
+pub line_begins : (bytes : List ℕ) (from i : ℕ) → i + 1 ≡ from → from ≤ length bytes → get_or bytes i 0 ≡ 10 → list_any (λ y. y == 10) (drop from bytes) ≡ false
+    → behind_last 10 bytes ≡ drop from bytes
+line_begins bytes from i e le is =
+    subst (λ n. list_any (λ y. y == 10) (drop n bytes) ≡ false → behind_last 10 bytes ≡ drop n bytes) e (last_part bytes i (omega (arith, e, le)) is)
 
--- A line feed ends its line.
-pub line_ended : (text : List ℕ) (i : ℕ) → i < length text → get_or text i 0 ≡ 10 → (line_at text (i + 1) ≡ line_at text i + 1) × (column_at text (i + 1) ≡ 1)
-line_ended text i lt is =
-    let test = eq-eqb (get_or text i 0) 10 is in
-    (line_more text i true lt test, ap (λ z. 1 + length (filter begins_character z)) (behind_more text i true lt test))
+-- The rest of a list, by its length, is the last line.
+pub rest_line : (bytes : List ℕ) (from : ℕ) → behind_last 10 bytes ≡ drop from bytes → take (length bytes - from) (drop from bytes) ≡ behind_last 10 bytes
+rest_line bytes from is = ap (λ n. take n (drop from bytes)) (sym (length-drop from bytes)) ∙ take-length (drop from bytes) ∙ sym is
 
--- Any other byte adds a column if it begins a character.
-pub line_stays : (text : List ℕ) (i : ℕ) (b : Bool) → i < length text → get_or text i 0 ≢ 10 → begins_character (get_or text i 0) ≡ b
-    → (line_at text (i + 1) ≡ line_at text i) × (column_at text (i + 1) ≡ column_at text i + cond b 1 0)
-line_stays text i b lt other begins =
-    let test : (get_or text i 0 == 10) ≡ false = grind arith in
-    let behind = behind_last 10 (take i text) in
-    let one = get_or text i 0 ∷ [] in
-    let next = ap (λ z. length (filter begins_character z)) (behind_more text i false lt test) ∙ ap length (filter-append begins_character behind one)
-    ∙ length-append (filter begins_character behind) (filter begins_character one) in
-    let last = length-filter_one begins_character (get_or text i 0) b begins in
-    let line = line_more text i false lt test in
-    (omega (arith, line), omega (arith, next, last))
+-- A list without line feeds is one line.
+pub only_line : (bytes : List ℕ) (from : ℕ) → from ≤ 0 → list_any (λ y. y == 10) (drop from bytes) ≡ false → behind_last 10 bytes ≡ drop from bytes
+only_line bytes from le = subst (λ n. list_any (λ y. y == 10) (drop n bytes) ≡ false → behind_last 10 bytes ≡ drop n bytes) (zero_is from le) (behind_none 10 bytes) where
+  zero_is : (n : ℕ) → n ≤ 0 → 0 ≡ n
+  zero_is n le = omega (arith, le)

@@ -9,19 +9,20 @@ ghost use Rattle.wm_command.specs.declared.build.InputFault.TheVariants as fault
 ghost use Rattle.wm_command.specs.declared.status.Status.{Status};
 ghost use Rattle.wm_command.specs.declared.arguments.Action.TheVariants as action;
 ghost use Rattle.wm_command.specs.Outcome.{IsOutput, IsRightFor};
-ghost use Rattle.wm_command.specs.Refused.{module_line, text_line, too_large_line};
+ghost use Rattle.wm_command.specs.Details.{IsTold, text_told};
+ghost use Rattle.wm_command.specs.Refused.{module_line, too_large_line};
 ghost use Rattle.wm_write.specs.declared.check_module.CheckFault.TheVariants as check;
 ghost use Rattle.wm_tokens.specs.declared.faults.TextWhy.TheVariants as text_fault;
 ghost use Rattle.wm_syntax.specs.Profiles.{IsOf};
 ghost use Rattle.wm_syntax.specs.Values.{value_of};
 
 use crate::answer::answer;
-use crate::position::{Position, locate};
+use crate::detail::{Detail, Ended, TextDetail};
 use crate::run::refuse;
 use crate::status::Status;
 use std::alloc::Global;
 use wm_decode::Refusal;
-use wm_read::faults::{TextRefusal, TextWhy};
+use wm_read::faults::TextWhy;
 use wm_read::spellings::Spellings;
 use wm_read::text::read_text;
 use wm_rules::Policy;
@@ -87,37 +88,46 @@ pub fn build<R: Source, W: Dest>(
     spellings: Spellings,
     r: &mut R,
     w: &mut W,
-) -> Status
+) -> Ended
     requires source { R.has_failed r.old ≡ false }
     requires dest { W.has_failed w.old ≡ false }
     requires limit { limit ≤ 2 ^ 62 }
-    ensures answered { R.has_failed r.new ≡ false → result ≢ Status.Memory → (text : List ℕ)
+    ensures answered { R.has_failed r.new ≡ false → result.status ≢ Status.Memory → (text : List ℕ)
         × (status : Status)
         × IsOutput action.Build text status
         × IfSome (R.remaining r.old)
         (λ input. IsRightFor action.Build profile limit policy spellings input (R.remaining r.new) text
         status)
         × IsAnswered text status (W.contents w.old) (W.contents w.new) (W.has_failed w.new)
-        (W.is_flushed w.new) result }
-    ensures reader { R.has_failed r.new ≡ true → (result ≡ Status.Io) × (w.new ≡ w.old) }
-    ensures memory { result ≡ Status.Memory → w.new ≡ w.old }
-    ensures io { (result ≡ Status.Io) ↔ ((R.has_failed r.new || W.has_failed w.new) ≡ true) }
+        (W.is_flushed w.new) result.status }
+    ensures reader { R.has_failed r.new ≡ true → (result.status ≡ Status.Io) × (w.new ≡ w.old) }
+    ensures memory { result.status ≡ Status.Memory → w.new ≡ w.old }
+    ensures io { (result.status ≡ Status.Io) ↔ ((R.has_failed r.new || W.has_failed w.new) ≡ true) }
+    ensures told { IsTold result (W.contents w.old) (W.contents w.new) }
 {
     match read_all(alloc, r, limit) {
         Ok(text) => convert(alloc, profile, policy, spellings, &text, w),
         Err(InputFault::TooLong) => {
-            let at = limit + 1;
-            refuse(
-                alloc,
-                Refusal {
-                    at,
-                    why: Why::TooLong,
-                },
-                w,
-            )
+            let refusal = Refusal {
+                at: limit + 1,
+                why: Why::TooLong,
+            };
+            Ended {
+                status: refuse(alloc, refusal, w),
+                detail: Some(Detail::Input {
+                    refusal,
+                    found: None,
+                }),
+            }
         }
-        Err(InputFault::Io) => Status::Io,
-        Err(InputFault::Memory) => Status::Memory,
+        Err(InputFault::Io) => Ended {
+            status: Status::Io,
+            detail: None,
+        },
+        Err(InputFault::Memory) => Ended {
+            status: Status::Memory,
+            detail: None,
+        },
     }
 }
 
@@ -129,18 +139,25 @@ fn convert<W: Dest>(
     spellings: Spellings,
     text: &[u8],
     w: &mut W,
-) -> Status
+) -> Ended
     requires { W.has_failed w.old ≡ false }
-    ensures answered { result ≢ Status.Memory → (written : List ℕ) × (status : Status)
+    ensures answered { result.status ≢ Status.Memory → (written : List ℕ) × (status : Status)
         × TextOut profile policy spellings text.now written status
         × IsAnswered written status (W.contents w.old) (W.contents w.new) (W.has_failed w.new)
-        (W.is_flushed w.new) result }
-    ensures memory { result ≡ Status.Memory → w.new ≡ w.old }
-    ensures io { (result ≡ Status.Io) ↔ (W.has_failed w.new ≡ true) }
+        (W.is_flushed w.new) result.status }
+    ensures memory { result.status ≡ Status.Memory → w.new ≡ w.old }
+    ensures io { (result.status ≡ Status.Io) ↔ (W.has_failed w.new ≡ true) }
+    ensures told { IsTold result (W.contents w.old) (W.contents w.new) }
 {
     match read_text(alloc, profile, spellings, text) {
         Ok(m) => convert_module(alloc, profile, policy, &m, w),
-        Err(refusal) => refuse_text(alloc, text, refusal, w),
+        Err(refusal) => {
+            let detail = TextDetail::of(text, refusal);
+            Ended {
+                status: refuse_text(alloc, &detail, w),
+                detail: Some(Detail::Text(detail)),
+            }
+        }
     }
 }
 
@@ -151,44 +168,57 @@ fn convert_module<W: Dest>(
     policy: Policy,
     m: &Module,
     w: &mut W,
-) -> Status
+) -> Ended
     requires open { W.has_failed w.old ≡ false }
     requires instructions { IsOf profile (value_of m.now) }
-    ensures answered { result ≢ Status.Memory → (written : List ℕ) × (status : Status)
+    ensures answered { result.status ≢ Status.Memory → (written : List ℕ) × (status : Status)
         × ModuleOut profile policy (value_of m.now) written status
         × IsAnswered written status (W.contents w.old) (W.contents w.new) (W.has_failed w.new)
-        (W.is_flushed w.new) result }
-    ensures memory { result ≡ Status.Memory → w.new ≡ w.old }
-    ensures io { (result ≡ Status.Io) ↔ (W.has_failed w.new ≡ true) }
+        (W.is_flushed w.new) result.status }
+    ensures memory { result.status ≡ Status.Memory → w.new ≡ w.old }
+    ensures io { (result.status ≡ Status.Io) ↔ (W.has_failed w.new ≡ true) }
+    ensures told { IsTold result (W.contents w.old) (W.contents w.new) }
 {
     match checked_bytes(alloc, profile, policy, m) {
-        Ok(bytes) => answer(w, &bytes, Status::Done),
-        Err(CheckFault::Refused(refusal)) => refuse_module(alloc, refusal, w),
-        Err(CheckFault::TooLarge) => answer(w, b"module refused: TooLarge\n", Status::Refused),
-        Err(CheckFault::Memory) => Status::Memory,
+        Ok(bytes) => Ended {
+            status: answer(w, &bytes, Status::Done),
+            detail: None,
+        },
+        Err(CheckFault::Refused(refusal)) => Ended {
+            status: refuse_module(alloc, refusal, w),
+            detail: Some(Detail::Built(refusal)),
+        },
+        Err(CheckFault::TooLarge) => Ended {
+            status: answer(w, b"module refused: TooLarge\n", Status::Refused),
+            detail: Some(Detail::TooLarge),
+        },
+        Err(CheckFault::Memory) => Ended {
+            status: Status::Memory,
+            detail: None,
+        },
     }
 }
 
-/// Writes the refusal of this text. Returns `Memory`, with nothing written, if memory was refused, now or before.
-fn refuse_text<W: Dest>(alloc: Global, text: &[u8], refusal: TextRefusal, w: &mut W) -> Status
+/// Writes the refusal of a text. Returns `Memory`, with nothing written, if memory was refused, now or before.
+fn refuse_text<W: Dest>(alloc: Global, detail: &TextDetail, w: &mut W) -> Status
     requires open { W.has_failed w.old ≡ false }
-    requires within { refusal.at ≤ length text.now }
-    ensures answered { result ≢ Status.Memory → (refusal.why ≢ text_fault.Memory)
-        × IsAnswered (text_line text.now refusal.at refusal.why) Status.Refused
+    ensures answered { result ≢ Status.Memory → (detail.now.why ≢ text_fault.Memory)
+        × IsAnswered (text_told detail.now) Status.Refused
         (W.contents w.old) (W.contents w.new) (W.has_failed w.new) (W.is_flushed w.new) result }
     ensures memory { result ≡ Status.Memory → w.new ≡ w.old }
     ensures io { (result ≡ Status.Io) ↔ (W.has_failed w.new ≡ true) }
 {
-    let why = match refusal.why {
+    let why = match detail.why {
         TextWhy::Memory => return Status::Memory,
         why => why,
     };
-    let Position { line, column } = locate(text, refusal.at);
-    let said = format!(in alloc;
-        "text refused at {} ({line}:{column}): {}\n",
-        refusal.at,
-        why.name()
-    );
+    let TextDetail {
+        at,
+        line,
+        column,
+        ..
+    } = detail;
+    let said = format!(in alloc; "text refused at {at} ({line}:{column}): {}\n", why.name());
     match said {
         Ok(said) => answer(w, said.as_bytes(), Status::Refused),
         Err(_) => Status::Memory,

@@ -8,6 +8,7 @@ ghost use Rattle.wm_command.specs.Outcome.{IsRightFor};
 
 use crate::arguments::Line;
 use crate::complaint::{complain, complain_of};
+use crate::detail::complain_detail;
 use crate::run::run_line;
 use crate::status::Status;
 use crate::witness::Witness;
@@ -92,9 +93,10 @@ fn follow<R: Print + Eprint + AllocGlobal, I: Read + Drop>(
     };
     let mut source = InputOf::new(Witness::new(reader));
     let mut dest = OutputOf::new(Witness::new(writer));
-    let status = run_line(rt.alloc(), line, &mut source, &mut dest);
+    let ended = run_line(rt.alloc(), line, &mut source, &mut dest);
+    let status = ended.status;
     match status {
-        Status::Done | Status::Refused => {}
+        Status::Done | Status::Refused => complain_detail(rt, name, &ended),
         Status::Memory => complain(rt, &status),
         Status::Io => match (source.into_inner().error(), dest.into_inner().error()) {
             (Some(error), _) => complain_of(rt, &status, name, error),

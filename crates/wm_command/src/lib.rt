@@ -1,13 +1,16 @@
 //! The command `wmod`: its arguments, and what each action does. The program and the tests are in `wm_cli`.
-//! `run` and `witness` are public for the tests only.
+//! `run`, `detail` and `witness` are public for the tests only.
 #![tactic(auto)]
 
 mod answer;
 pub mod arguments;
 mod build;
 pub mod complaint;
+pub mod detail;
 pub mod execute;
 pub mod explain;
+pub mod found;
+mod hints;
 pub mod laws;
 pub mod line;
 mod position;

@@ -1,7 +1,7 @@
 //! The line and the column of an offset in a text, as editors count them.
 
-ghost use Rattle.std.specs.Prelude.{◌≡◌, ◌≤◌, length};
-ghost use Rattle.wm_command.specs.Refused.{begins_character, column_at, line_at};
+ghost use Rattle.std.specs.Prelude.{◌≡◌, ◌≤◌, ◌+◌, ◌==◌, filter, length};
+ghost use Rattle.wm_command.specs.Refused.{begins_character, behind_last, column_at, line_at};
 
 /// A line and a column, both from 1.
 #[derive(Clone, Copy, PartialEq, Eq, Debug)]
@@ -11,10 +11,49 @@ pub struct Position {
 }
 
 /// Whether a byte of UTF-8 begins a character.
-fn is_first(byte: u8) -> bool
+pub(crate) fn is_first(byte: u8) -> bool
     ensures { result ≡ begins_character byte }
 {
     byte < 0x80 || byte >= 0xC0
+}
+
+/// Returns the line after this front of a text. The loop counts and does nothing else, so that it is compiled to
+/// instructions on many bytes at once.
+fn line_after(before: &[u8]) -> usize
+    ensures { result ≡ 1 + length (filter (λ c. c == 10) before.now) }
+{
+    let mut line = 1;
+    for byte in before {
+        if *byte == b'\n' {
+            line += 1;
+        }
+    }
+    line
+}
+
+/// Returns the bytes after the last line feed, or all bytes if there is none. It reads no line but the last.
+fn last_line(before: &[u8]) -> &[u8]
+    ensures { result.now ≡ behind_last 10 before.now }
+{
+    let mut from = before.len();
+    while from > 0 && before[from - 1] != b'\n' {
+        from -= 1;
+    }
+    &before[from..]
+}
+
+/// Returns the number of characters of a line.
+fn characters(line: &[u8]) -> usize
+    ensures count { result ≡ length (filter begins_character line.now) }
+    ensures few { result ≤ length line.now }
+{
+    let mut count = 0;
+    for byte in line {
+        if is_first(*byte) {
+            count += 1;
+        }
+    }
+    count
 }
 
 /// Returns the line and the column of an offset. The byte 0A alone ends a line, and a column is one character.
@@ -23,16 +62,9 @@ pub fn locate(text: &[u8], at: usize) -> Position
     ensures line { result.line ≡ line_at text.now at }
     ensures column { result.column ≡ column_at text.now at }
 {
-    let mut line = 1;
-    let mut column = 1;
     let before = &text[..at];
-    for byte in before {
-        if *byte == b'\n' {
-            line += 1;
-            column = 1;
-        } else if is_first(*byte) {
-            column += 1;
-        }
+    Position {
+        line: line_after(before),
+        column: 1 + characters(last_line(before)),
     }
-    Position { line, column }
 }

@@ -6,6 +6,7 @@ ghost use Rattle.wm_rules.specs.inner.Loaders.{module_in};
 ghost use Rattle.wm_write.specs.Canon.{canon};
 ghost use Rattle.wm_write.specs.Layout.{layout};
 ghost use Rattle.wm_command.specs.Answers.{IsAnswered};
+ghost use Rattle.wm_command.specs.Details.{IsTold};
 ghost use Rattle.wm_command.specs.declared.status.Status.{Status};
 ghost use Rattle.wm_command.specs.Outcome.{IsRightFor, IsOutput, stats_text};
 ghost use Rattle.wm_command.specs.Refused.{refusal_line};
@@ -13,6 +14,7 @@ ghost use Rattle.wm_command.specs.Refused.{refusal_line};
 use crate::answer::answer;
 use crate::arguments::{Action, Line};
 use crate::build::build;
+use crate::detail::{Detail, Ended};
 use crate::status::Status;
 use std::alloc::Global;
 use wm_decode::Refusal;
@@ -26,7 +28,7 @@ use wm_write::print::{PrintFault, print};
 
 /// Reads the input up to its end or its refusal, performs the action, and writes the answer or the refusal.
 /// Returns `Io` if the reader or the writer failed, and `Memory` if memory was refused. Writes nothing if memory
-/// was refused or the reader failed. `limit` is in bytes, at most 2^62.
+/// was refused or the reader failed. `limit` is in bytes, at most 2^62. The detail is that of the written refusal.
 pub fn run<R: Source, W: Dest>(
     alloc: Global,
     action: Action,
@@ -36,37 +38,50 @@ pub fn run<R: Source, W: Dest>(
     spellings: Spellings,
     r: &mut R,
     w: &mut W,
-) -> Status
+) -> Ended
     requires source { R.has_failed r.old ≡ false }
     requires dest { W.has_failed w.old ≡ false }
     requires limit { limit ≤ 2 ^ 62 }
     // The whole text that is right for the input is written, or a prefix of it if the writer failed.
-    ensures answered { R.has_failed r.new ≡ false → result ≢ Status.Memory → (text : List ℕ)
+    ensures answered { R.has_failed r.new ≡ false → result.status ≢ Status.Memory → (text : List ℕ)
         × (status : Status)
         × IsOutput action text status
         × IfSome (R.remaining r.old) (λ input. IsRightFor action profile limit policy spellings input
         (R.remaining r.new) text status)
         × IsAnswered text status (W.contents w.old) (W.contents w.new) (W.has_failed w.new)
-        (W.is_flushed w.new) result }
-    ensures reader { R.has_failed r.new ≡ true → (result ≡ Status.Io) × (w.new ≡ w.old) }
-    ensures memory { result ≡ Status.Memory → w.new ≡ w.old }
-    ensures io { (result ≡ Status.Io) ↔ ((R.has_failed r.new || W.has_failed w.new) ≡ true) }
+        (W.is_flushed w.new) result.status }
+    ensures reader { R.has_failed r.new ≡ true → (result.status ≡ Status.Io) × (w.new ≡ w.old) }
+    ensures memory { result.status ≡ Status.Memory → w.new ≡ w.old }
+    ensures io { (result.status ≡ Status.Io) ↔ ((R.has_failed r.new || W.has_failed w.new) ≡ true) }
+    ensures told { IsTold result (W.contents w.old) (W.contents w.new) }
 {
     match action {
         Action::Check => match validate_from(alloc, r, profile, limit, policy) {
-            Ok(_) => answer(w, b"valid\n", Status::Done),
+            Ok(_) => Ended {
+                status: answer(w, b"valid\n", Status::Done),
+                detail: None,
+            },
             Err(fault) => answer_fault(alloc, fault, w),
         },
         Action::Stats => match validate_from(alloc, r, profile, limit, policy) {
-            Ok(summary) => report(alloc, summary, w),
+            Ok(summary) => Ended {
+                status: report(alloc, summary, w),
+                detail: None,
+            },
             Err(fault) => answer_fault(alloc, fault, w),
         },
         Action::Canon => match load_from(alloc, r, profile, limit, policy) {
-            Ok(checked) => write_canonical(&checked, w),
+            Ok(checked) => Ended {
+                status: write_canonical(&checked, w),
+                detail: None,
+            },
             Err(fault) => answer_fault(alloc, fault, w),
         },
         Action::Show => match load_from(alloc, r, profile, limit, policy) {
-            Ok(checked) => write_text(&checked, w),
+            Ok(checked) => Ended {
+                status: write_text(&checked, w),
+                detail: None,
+            },
             Err(fault) => answer_fault(alloc, fault, w),
         },
         Action::Build => build(alloc, profile, limit, policy, spellings, r, w),
@@ -74,11 +89,11 @@ pub fn run<R: Source, W: Dest>(
 }
 
 /// Runs the action of the line on this input, as `run` does.
-pub fn run_line<R: Source, W: Dest>(alloc: Global, line: &Line, r: &mut R, w: &mut W) -> Status
+pub fn run_line<R: Source, W: Dest>(alloc: Global, line: &Line, r: &mut R, w: &mut W) -> Ended
     requires source { R.has_failed r.old ≡ false }
     requires dest { W.has_failed w.old ≡ false }
     // The whole text that is right for the input is written, or a prefix of it if the writer failed.
-    ensures answered { R.has_failed r.new ≡ false → result ≢ Status.Memory → (text : List ℕ)
+    ensures answered { R.has_failed r.new ≡ false → result.status ≢ Status.Memory → (text : List ℕ)
         × (status : Status)
         × IsOutput line.now.action text status
         × IfSome (R.remaining r.old)
@@ -86,10 +101,11 @@ pub fn run_line<R: Source, W: Dest>(alloc: Global, line: &Line, r: &mut R, w: &m
         line.now.spellings input
         (R.remaining r.new) text status)
         × IsAnswered text status (W.contents w.old) (W.contents w.new) (W.has_failed w.new)
-        (W.is_flushed w.new) result }
-    ensures reader { R.has_failed r.new ≡ true → (result ≡ Status.Io) × (w.new ≡ w.old) }
-    ensures memory { result ≡ Status.Memory → w.new ≡ w.old }
-    ensures io { (result ≡ Status.Io) ↔ ((R.has_failed r.new || W.has_failed w.new) ≡ true) }
+        (W.is_flushed w.new) result.status }
+    ensures reader { R.has_failed r.new ≡ true → (result.status ≡ Status.Io) × (w.new ≡ w.old) }
+    ensures memory { result.status ≡ Status.Memory → w.new ≡ w.old }
+    ensures io { (result.status ≡ Status.Io) ↔ ((R.has_failed r.new || W.has_failed w.new) ≡ true) }
+    ensures told { IsTold result (W.contents w.old) (W.contents w.new) }
 {
     run(
         alloc,
@@ -159,20 +175,30 @@ fn write_text<W: Dest>(checked: &Checked, w: &mut W) -> Status
 
 /// Writes the refusal of an input. Returns `Memory` if memory was refused, and `Io` if the reader failed; both
 /// write nothing. Also returns `Io` if the writer failed.
-fn answer_fault<W: Dest>(alloc: Global, fault: FromFault, w: &mut W) -> Status
+fn answer_fault<W: Dest>(alloc: Global, fault: FromFault, w: &mut W) -> Ended
     requires { W.has_failed w.old ≡ false }
-    ensures answered { fault ≢ FromFault.Io → result ≢ Status.Memory → (refusal : Refusal)
+    ensures answered { fault ≢ FromFault.Io → result.status ≢ Status.Memory → (refusal : Refusal)
         × (fault ≡ FromFault.Refused refusal)
         × (refusal.why ≢ Why.Memory)
         × IsAnswered (refusal_line refusal.at refusal.why) Status.Refused
-        (W.contents w.old) (W.contents w.new) (W.has_failed w.new) (W.is_flushed w.new) result }
-    ensures reader { fault ≡ FromFault.Io → (result ≡ Status.Io) × (w.new ≡ w.old) }
-    ensures memory { result ≡ Status.Memory → w.new ≡ w.old }
-    ensures io { (result ≡ Status.Io) ↔ ((fault ≡ FromFault.Io) ⊎ (W.has_failed w.new ≡ true)) }
+        (W.contents w.old) (W.contents w.new) (W.has_failed w.new) (W.is_flushed w.new) result.status }
+    ensures reader { fault ≡ FromFault.Io → (result.status ≡ Status.Io) × (w.new ≡ w.old) }
+    ensures memory { result.status ≡ Status.Memory → w.new ≡ w.old }
+    ensures io { (result.status ≡ Status.Io) ↔ ((fault ≡ FromFault.Io) ⊎ (W.has_failed w.new ≡ true)) }
+    ensures told { IsTold result (W.contents w.old) (W.contents w.new) }
 {
     match fault {
-        FromFault::Refused(refusal) => refuse(alloc, refusal, w),
-        FromFault::Io => Status::Io,
+        FromFault::Refused(refusal) => Ended {
+            status: refuse(alloc, refusal, w),
+            detail: Some(Detail::Input {
+                refusal,
+                found: None,
+            }),
+        },
+        FromFault::Io => Ended {
+            status: Status::Io,
+            detail: None,
+        },
     }
 }
 

@@ -153,7 +153,7 @@ fn follow_run<'a>(task: &Task<'a>, action: Action, reading: Mode, writing: Mode)
     let line = task.line;
     let mut source = Input::new(Reader::new(task.input, reading));
     let mut dest = Output::new(Writer::new(task.alloc, writing));
-    let status = run(
+    let ended = run(
         task.alloc,
         action,
         line.profile,
@@ -163,7 +163,11 @@ fn follow_run<'a>(task: &Task<'a>, action: Action, reading: Mode, writing: Mode)
         &mut source,
         &mut dest,
     );
-    (Answer::new(status), source.into_inner(), dest.into_inner())
+    (
+        Answer::new(ended.status),
+        source.into_inner(),
+        dest.into_inner(),
+    )
 }
 
 fn validate<'a>(task: &Task<'a>, reading: Mode) -> (Answer, Reader<'a>) {

@@ -1,0 +1,219 @@
+//! The table of features after WebAssembly 1.0, a line for each way in which one of them is refused. The table of
+//! `docs/LIMITS.md` has these lines as its rows.
+
+use crate::found::{Awaits, Place};
+use std::fmt;
+use wm_syntax::why::Why;
+
+/// A line has the NAME of the refusal, the section, the awaited part, the bytes, what begins there, the feature and
+/// how to avoid it. The first line that fits decides. `any` fits everything, and `value type` a block type too.
+pub const OF_FEATURES: &str = "\
+    Float | any | any | any | a floating-point type or instruction | floats | use --profile 3, or 4 \
+        with sign extension\n\
+    BadOpcode | any | opcode | C0 to C4 | a sign-extension instruction | sign-ext | use --profile 2, \
+        or 4 with floats, or compile with -mno-sign-ext\n\
+    BadOpcode | any | opcode | FC | a saturating conversion, or an instruction on a whole memory or \
+        table | nontrapping-fptoint, bulk-memory | compile with -mcpu=mvp\n\
+    SectionId | any | any | 0C | a data count section | bulk-memory | compile with -mno-bulk-memory\n\
+    Index | data | number | 01 to 02 | no such index; as the first number of a segment, a later form \
+        | bulk-memory | compile with -mno-bulk-memory\n\
+    Index | element | number | 01 to 07 | no such index; as the first number of a segment, a later \
+        form | bulk-memory, reference-types | compile with -mcpu=mvp\n\
+    BadByte | code | table byte | 80 to FF | a table index of more than one byte | reference-types | \
+        compile with -mcpu=mvp\n\
+    BadByte | code | table byte | 01 to 7F | a table other than the first | reference-types | \
+        compile with -mno-reference-types\n\
+    BadOpcode | any | opcode | D0 to D2 | an instruction on references | reference-types | compile \
+        with -mno-reference-types\n\
+    BadOpcode | any | opcode | 25 to 26 | an access to a table | reference-types | compile with \
+        -mno-reference-types\n\
+    BadOpcode | any | opcode | 1C | a select with its type | reference-types | compile with \
+        -mno-reference-types\n\
+    BadByte | any | value type | 6F to 70 | a reference type | reference-types | compile with \
+        -mno-reference-types\n\
+    BadByte | any | element type | 6F | the type externref | reference-types | compile with \
+        -mno-reference-types\n\
+    Second | table | any | any | a second table | reference-types | compile with \
+        -mno-reference-types\n\
+    Arity | type | number | 02 to FF | a function type with several results | multivalue | compile \
+        with -mno-multivalue\n\
+    BadByte | any | block type | 00 to 3F | a type index as a block type | multivalue | compile with \
+        -mno-multivalue\n\
+    BadByte | any | block type | 80 to FF | a type index as a block type | multivalue | compile with \
+        -mno-multivalue\n\
+    BadOpcode | any | opcode | FD | a vector instruction | simd128 | compile with -mno-simd128\n\
+    BadByte | any | value type | 7B | the vector type v128 | simd128 | compile with -mno-simd128\n\
+    BadOpcode | any | opcode | FE | an atomic instruction | atomics | compile without -pthread\n\
+    BadByte | any | limits flag | 02 to 03 | a shared memory | atomics | compile without -pthread\n\
+    BadOpcode | any | opcode | 12 to 13 | a tail call | tail-call | compile with -mno-tail-call\n\
+    BadOpcode | any | opcode | 06 to 0A | an instruction on exceptions | exception-handling | \
+        compile without -fwasm-exceptions\n\
+    BadOpcode | any | opcode | 18 to 19 | an instruction on exceptions | exception-handling | \
+        compile without -fwasm-exceptions\n\
+    BadOpcode | any | opcode | 1F | an instruction on exceptions | exception-handling | compile \
+        without -fwasm-exceptions\n\
+    BadByte | any | value type | 69 | the type exnref | exception-handling | compile without \
+        -fwasm-exceptions\n\
+    BadByte | any | kind | 04 | a tag | exception-handling | compile without -fwasm-exceptions\n\
+    SectionId | any | any | 0D | a tag section | exception-handling | compile without \
+        -fwasm-exceptions\n\
+    Arity | global | number | any | a second instruction in a constant expression | extended-const | \
+        compile with -mno-extended-const\n\
+    Arity | element | number | any | a second instruction in a constant expression | extended-const \
+        | compile with -mno-extended-const\n\
+    Arity | data | number | any | a second instruction in a constant expression | extended-const | \
+        compile with -mno-extended-const\n\
+    NotConst | any | opcode | 6A to 6C | arithmetic in a constant expression | extended-const | \
+        compile with -mno-extended-const\n\
+    NotConst | any | opcode | 7C to 7E | arithmetic in a constant expression | extended-const | \
+        compile with -mno-extended-const\n\
+    BadByte | any | limits flag | 04 to 07 | a memory or a table with 64-bit addresses | memory64 | \
+        compile with --target=wasm32\n\
+    BadByte | code | memory byte | 01 to FF | a memory other than the first | multimemory | compile \
+        with -mno-multimemory\n\
+    Second | memory | any | any | a second memory | multimemory | compile with -mno-multimemory\n\
+    Second | import | any | any | a second table or memory | reference-types, multimemory | compile \
+        with -mcpu=mvp\n\
+    BadOpcode | any | opcode | 14 to 15 | a call of a function reference | function-references | \
+        compile to WebAssembly 1.0\n\
+    BadOpcode | any | opcode | D4 to D6 | an instruction on references | function-references | \
+        compile to WebAssembly 1.0\n\
+    BadByte | any | value type | 63 to 64 | a typed reference | function-references | compile to \
+        WebAssembly 1.0\n\
+    BadByte | any | element type | 63 to 64 | a typed reference | function-references | compile to \
+        WebAssembly 1.0\n\
+    BadByte | table | element type | 40 | a table with an initial value | function-references | \
+        compile to WebAssembly 1.0\n\
+    BadOpcode | any | opcode | FB | an instruction on structs and arrays | gc | compile to \
+        WebAssembly 1.0\n\
+    BadOpcode | any | opcode | D3 | a comparison of references | gc | compile to WebAssembly 1.0\n\
+    BadByte | type | type form | 4E to 50 | a recursive type or a subtype | gc | compile to \
+        WebAssembly 1.0\n\
+    BadByte | type | type form | 5E to 5F | an array type or a struct type | gc | compile to \
+        WebAssembly 1.0\n\
+    BadByte | any | value type | 6A to 73 | a reference type | gc | compile to WebAssembly 1.0\n\
+    BadByte | any | element type | 6A to 73 | a reference type | gc | compile to WebAssembly 1.0\n\
+    Version | any | any | 0A to 0D | a component, not a module | component model | check the core \
+        modules inside it";
+
+/// A line of the table.
+#[derive(Clone, Copy)]
+pub(crate) struct Hint<'a> {
+    name: &'a str,
+    section: &'a str,
+    awaited: &'a str,
+    bytes: &'a str,
+    begins: &'a str,
+    feature: &'a str,
+    remedy: &'a str,
+}
+
+impl fmt::Display for Hint<'_> {
+    fn fmt<W: fmt::Write>(&self, f: &mut fmt::Formatter<W>) -> fmt::Result {
+        write!(f, "{} ({}); {}", self.begins, self.feature, self.remedy)
+    }
+}
+
+/// Whether a cell of the table fits this word.
+fn fits(cell: &str, word: &str) -> bool {
+    cell == "any" || cell == word
+}
+
+/// Parses a byte in two hexadecimal digits.
+fn byte_of(digits: &str) -> Option<u8> {
+    u8::from_str_radix(digits, 16).ok()
+}
+
+/// Whether a cell such as `FC` or `C0 to C4` has this byte.
+fn has_byte(cell: &str, byte: u8) -> bool {
+    if cell == "any" {
+        return true;
+    }
+    let (first, last) = cell.split_once(" to ").unwrap_or((cell, cell));
+    match (byte_of(first), byte_of(last)) {
+        (Some(first), Some(last)) => first <= byte && byte <= last,
+        _ => false,
+    }
+}
+
+impl<'a> Hint<'a> {
+    fn of(line: &'a str) -> Option<Hint<'a>> {
+        let (name, rest) = line.split_once(" | ")?;
+        let (section, rest) = rest.split_once(" | ")?;
+        let (awaited, rest) = rest.split_once(" | ")?;
+        let (bytes, rest) = rest.split_once(" | ")?;
+        let (begins, rest) = rest.split_once(" | ")?;
+        let (feature, remedy) = rest.split_once(" | ")?;
+        Some(Hint {
+            name,
+            section,
+            awaited,
+            bytes,
+            begins,
+            feature,
+            remedy,
+        })
+    }
+
+    /// Whether the line is about this byte at this place. A block type may be a value type.
+    fn is_for(&self, why: Why, byte: u8, place: Option<Place>) -> bool {
+        let (section, awaited) = match place {
+            Some(place) => (section_name(place.section), awaited_name(place.awaits)),
+            None => ("none", "none"),
+        };
+        self.name == why.name()
+            && fits(self.section, section)
+            && (fits(self.awaited, awaited)
+                || (self.awaited == "value type" && awaited == "block type"))
+            && has_byte(self.bytes, byte)
+    }
+}
+
+/// Returns the first line of the table for a byte that is refused at this place, or `None` if the byte begins nothing
+/// of a later feature.
+pub(crate) fn hint_for(why: Why, byte: u8, place: Option<Place>) -> Option<Hint<'static>> {
+    for line in OF_FEATURES.lines() {
+        match Hint::of(line) {
+            Some(hint) if hint.is_for(why, byte, place) => return Some(hint),
+            _ => {}
+        }
+    }
+    None
+}
+
+/// Returns the name of the section with this id. Core spec 5.5.2.
+pub(crate) fn section_name(id: u8) -> &'static str {
+    match id {
+        0 => "custom",
+        1 => "type",
+        2 => "import",
+        3 => "function",
+        4 => "table",
+        5 => "memory",
+        6 => "global",
+        7 => "export",
+        8 => "start",
+        9 => "element",
+        10 => "code",
+        11 => "data",
+        _ => "unknown",
+    }
+}
+
+fn awaited_name(awaits: Awaits) -> &'static str {
+    match awaits {
+        Awaits::Number => "number",
+        Awaits::Name => "name",
+        Awaits::ValueType => "value type",
+        Awaits::BlockType => "block type",
+        Awaits::TypeForm => "type form",
+        Awaits::LimitsFlag => "limits flag",
+        Awaits::ElementType => "element type",
+        Awaits::Mutability => "mutability",
+        Awaits::Opcode => "opcode",
+        Awaits::TableByte => "table byte",
+        Awaits::MemoryByte => "memory byte",
+        Awaits::Kind => "kind",
+        Awaits::Any => "byte",
+    }
+}
