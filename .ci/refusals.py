@@ -1,5 +1,6 @@
 #!/usr/bin/env python3
 """Checks that docs/REFUSALS.md, wm_rows, `wmod explain`, the header and the crate for cargo agree on refusals.
+Also checks that docs/LIMITS.md has the table of later features, and that the tests have each of its lines.
 
     .ci/refusals.py
 
@@ -18,6 +19,9 @@ ROWS = "crates/wm_rows/stdout"
 WORDS = "crates/wm_syntax/src/why.rt"
 TEXT_WORDS = "crates/wm_tokens/src/faults.rt"
 TABLE = "crates/wm_refusals/src/tables.rt"
+LIMITS = "docs/LIMITS.md"
+HINTS = "crates/wm_command/src/hints.rt"
+DETAILS = "crates/wm_cli/src/tests/details.rt"
 HEADER = "crates/wm_c/include/wmod.h"
 CRATE = "rust/src/why.rs"
 
@@ -68,9 +72,9 @@ def printed_words(file, kind):
     return set(re.findall(kind + r'::\w+ => "(\w+)",', file.read_text(encoding="utf8")))
 
 
-def lines_of_tables(top):
-    """Yields the lines of each of the three constants, with escapes replaced."""
-    text = re.sub(r"\\\n\s*", "", (top / TABLE).read_text(encoding="utf8"))
+def lines_of_tables(top, file=TABLE):
+    """Yields the lines of each constant of a file of tables, with escapes replaced."""
+    text = re.sub(r"\\\n\s*", "", (top / file).read_text(encoding="utf8"))
     for lines in re.findall(r'(?m)^pub const \w+: &str = "(.*)";$', text):
         yield re.sub(r"\\(.)", lambda it: "\n" if it[1] == "n" else it[1], lines).split("\n")
 
@@ -82,6 +86,17 @@ def explained(top, page):
     rows = [f"{name} | {rest}" for name, rest in row.findall(page)]
     lines = [line for lines in lines_of_tables(top) for line in lines]
     return [] if rows == lines else [f"not in both {PAGE} and {TABLE}, or in another order: {it}" for it in {*rows} ^ {*lines} or rows]
+
+
+def hinted(top):
+    """Returns a fault for each line of the table of later features that the page or the tests lack, and the other way."""
+    (lines,) = lines_of_tables(top, HINTS)
+    row = re.compile(r"^\| ((?:[^|]+ \| ){6}[^|]+) \|$", re.M)
+    rows = [it.replace("`", "") for it in row.findall((top / LIMITS).read_text(encoding="utf8")) if it[0] == "`"]
+    said = (top / DETAILS).read_text(encoding="utf8")
+    cells = [line.split(" | ") for line in lines]
+    faults = [f"no row in {DETAILS}: {begins} ({feature})" for *_, begins, feature, _ in cells if f": {begins} ({feature}); " not in said]
+    return faults + ([] if rows == lines else [f"not in both {LIMITS} and {HINTS}, or in another order: {it}" for it in {*rows} ^ {*lines} or rows])
 
 
 def rows_of_crate(top):
@@ -148,7 +163,7 @@ def faults_of(top):
     faults += faults_of_rows(list(text_rows_of_page(page)), rows_of_group(top, TEXTS), text_words)
     if words_without_input(page) != WITHOUT_INPUT:
         faults.append(f"rows in {PAGE} without a smallest input: {words_without_input(page)}")
-    return faults + explained(top, page) + unexplained(top) + unlike_crate(top)
+    return faults + explained(top, page) + unexplained(top) + hinted(top) + unlike_crate(top)
 
 
 def main():

@@ -1,5 +1,6 @@
 //! Tests of the program's output and exit statuses.
 
+mod details;
 pub(crate) mod ends;
 pub(crate) mod faults;
 mod inputs;
@@ -7,6 +8,7 @@ mod lines;
 pub(crate) mod rows;
 mod texts;
 
+use details::DETAILS;
 use ends::{BROKEN, INTERRUPTED, Mode, Reader, Writer};
 use inputs::INPUTS;
 use rows::{fail_ends, is_given_back, obey, play};
@@ -160,6 +162,11 @@ fn readers_and_writers_that_fail(rt: HostRuntime) -> Result<(), Fail> {
     let failed = fail_ends(&rt, rt.alloc(), INPUTS)?;
     assert!(rt; failed.as_str() == FAILED, "{failed}");
     Ok(())
+}
+
+#[test]
+fn details_of_refusals(rt: HostRuntime) -> Result<(), Fail> {
+    play(&rt, rt.alloc(), DETAILS)
 }
 
 #[test]

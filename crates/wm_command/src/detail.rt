@@ -3,14 +3,14 @@
 ghost use Rattle.std.specs.Prelude.{◌≡◌, ◌≤◌, drop, length, take};
 
 use crate::complaint::{Escaped, complain};
-use crate::found::{Found, Place};
 use crate::hints::{hint_for, section_name};
 use crate::position::{Position, is_first, locate};
 use crate::status::Status;
 use std::fmt;
-use wm_decode::Refusal;
+use wm_decode::{Place, Refusal};
 use wm_read::faults::{TextRefusal, TextWhy};
 use wm_refusals::rows::{Row, row_of_module, row_of_text};
+use wm_rules::Found;
 use wm_syntax::why::Why;
 use wm_tokens::lexeme::skip_space;
 
@@ -49,8 +49,26 @@ pub struct TextDetail {
     pub line: usize,
     pub column: usize,
     pub token: Token,
-    /// The only token that may come here, if it is known.
-    pub expected: Option<&'static str>,
+    /// What must come here, if it is known.
+    pub expected: Option<Start>,
+}
+
+/// The tokens that a text must begin with, from one of them on.
+#[derive(Clone, Copy)]
+pub enum Start {
+    /// `(module`
+    Parenthesis,
+    /// `module`
+    Module,
+}
+
+impl fmt::Display for Start {
+    fn fmt<W: fmt::Write>(&self, f: &mut fmt::Formatter<W>) -> fmt::Result {
+        f.write_str(match self {
+            Start::Parenthesis => "`(module`",
+            Start::Module => "`module`",
+        })
+    }
 }
 
 /// The start of the token that decides a refusal.
@@ -174,14 +192,14 @@ impl fmt::Display for Token {
     }
 }
 
-/// Returns the only token that may come at this offset of a text that is refused there as `Expected`. Returns `None`
-/// if several may come, or if it is not known: only the two tokens at the start of a text are.
-fn only_token(text: &[u8], at: usize) -> Option<&'static str> {
+/// Returns what must come at this offset of a text that is refused there as `Expected`. Returns `None` after the first
+/// two tokens, where it is not known.
+fn start_at(text: &[u8], at: usize) -> Option<Start> {
     let left = text.len().checked_sub(at)?;
     let first = skip_space(text);
     match first {
-        _ if first.len() == left => Some("(module"),
-        [b'(', inner @ ..] if skip_space(inner).len() == left => Some("module"),
+        _ if first.len() == left => Some(Start::Parenthesis),
+        [b'(', inner @ ..] if skip_space(inner).len() == left => Some(Start::Module),
         _ => None,
     }
 }
@@ -220,7 +238,7 @@ impl TextDetail {
         let TextRefusal { at, why } = refusal;
         let Position { line, column } = locate(text, at);
         let expected = match why {
-            TextWhy::Expected => only_token(text, at),
+            TextWhy::Expected => start_at(text, at),
             _ => None,
         };
         TextDetail {
@@ -246,7 +264,7 @@ impl fmt::Display for TextDetail {
         } = self;
         write!(f, "{line}:{column}: found {token}")?;
         match expected {
-            Some(token) => write!(f, ", expected `{token}`"),
+            Some(start) => write!(f, ", expected {start}"),
             None => write!(f, ": {}", Meaning(row_of_text(why.name()))),
         }
     }
@@ -272,8 +290,8 @@ impl fmt::Display for Item {
             };
         };
         let (kind, before) = match place.section {
-            3 | 10 => ("function", found.imported_functions),
-            6 => ("global", found.imported_globals),
+            3 | 10 => ("function", found.imported.functions),
+            6 => ("global", found.imported.globals),
             8 => return f.write_str("the start section"),
             9 => ("element segment", 0),
             11 => ("data segment", 0),
@@ -315,6 +333,8 @@ impl fmt::Display for Refused {
             .and_then(|byte| hint_for(*why, byte, found.place))
         {
             Some(hint) => write!(f, ": {hint}"),
+            // the line says already that the input ends
+            None if *why == Why::Truncated => Ok(()),
             None => write!(f, ": {}", meaning_of(*why)),
         }
     }

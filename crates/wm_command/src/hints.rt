@@ -1,8 +1,8 @@
 //! The table of features after WebAssembly 1.0, a line for each way in which one of them is refused. The table of
 //! `docs/LIMITS.md` has these lines as its rows.
 
-use crate::found::{Awaits, Place};
 use std::fmt;
+use wm_decode::{Awaits, Place};
 use wm_syntax::why::Why;
 
 /// A line has the NAME of the refusal, the section, the awaited part, the bytes, what begins there, the feature and
@@ -35,7 +35,7 @@ pub const OF_FEATURES: &str = "\
         -mno-reference-types\n\
     Second | table | any | any | a second table | reference-types | compile with \
         -mno-reference-types\n\
-    Arity | type | number | 02 to FF | a function type with several results | multivalue | compile \
+    Arity | type | number | any | a function type with several results | multivalue | compile \
         with -mno-multivalue\n\
     BadByte | any | block type | 00 to 3F | a type index as a block type | multivalue | compile with \
         -mno-multivalue\n\

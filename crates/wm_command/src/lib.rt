@@ -9,7 +9,6 @@ pub mod complaint;
 pub mod detail;
 pub mod execute;
 pub mod explain;
-pub mod found;
 mod hints;
 pub mod laws;
 pub mod line;

@@ -5,6 +5,7 @@
 //!     the fault's kind and exit status
 //! wrong WORDS = the message for the first wrong word
 //! wmod WORDS < INPUT = the exit status, and the output
+//! detail wmod WORDS < INPUT = the line of detail without the file, or `none`
 //! in N WORDS < INPUT = both, if the reader gives N bytes, one a call, and then fails
 //! out N WORDS < INPUT = both, if the writer takes N bytes, one a call, and then fails, at the flush if that is next
 //! labels TEXT = the labels at the front, three at most, or the fault; and the number of bytes left
@@ -28,8 +29,11 @@ use wm_bodies::named::earlier_fault;
 use wm_bodies::pieces::labels;
 use wm_command::arguments::{Action, Line, LineFault, Request};
 use wm_command::line::{request, wrong_word};
+use wm_command::run::run_line;
 use wm_command::status::{Status, exit_code};
 use wm_rules::Policy;
+use wm_syntax::io::input::Input;
+use wm_syntax::io::output::Output;
 use wm_syntax::profile::{Feature, Profile};
 use wm_tokens::faults::TextFault;
 
@@ -249,6 +253,18 @@ fn cut_row(alloc: Global, end: End, row: &str) -> Result<String, Fail> {
     )?)
 }
 
+/// Returns the detail of a call that is refused, or `none` if it is not.
+fn detail_row(alloc: Global, call: &str) -> Result<String, Fail> {
+    let (command, input) = parts_of(alloc, call)?;
+    let line = line_of(alloc, command)?;
+    let mut source = Input::new(input.as_slice());
+    let mut dest = Output::new(Vec::new(alloc));
+    match run_line(alloc, &line, &mut source, &mut dest).detail {
+        Some(detail) => Ok(format!(in alloc; "{detail}")?),
+        None => Ok(format!(in alloc; "none")?),
+    }
+}
+
 fn tell_text_fault(alloc: Global, fault: TextFault) -> Result<String, Fail> {
     Ok(format!(in alloc; "{:?}, {} left", fault.why, fault.left)?)
 }
@@ -281,6 +297,7 @@ fn answer(alloc: Global, call: &str) -> Result<String, Fail> {
         Some(("wmod", _)) => obey_row(alloc, call),
         Some(("in", row)) => cut_row(alloc, End::Reader, row),
         Some(("out", row)) => cut_row(alloc, End::Writer, row),
+        Some(("detail", call)) => detail_row(alloc, call),
         Some(("labels", text)) => three_labels(alloc, text),
         Some(("earlier", row)) => two_locals(alloc, row),
         _ => Ok(format!(in alloc; "no such call")?),
