@@ -24,6 +24,7 @@ use Rattle.wm_command.specs.declared.arguments.Action.{Action}
 use Rattle.wm_rules.specs.declared.policy.Policy.{Policy}
 use Rattle.wm_read.specs.declared.spellings.Spellings.{Spellings}
 use Rattle.wm_rules.specs.Reading.{AnswersSource, LoadedInput, RefusedInput}
+use Rattle.wm_rules.specs.declared.found.Found.{Found}
 use Rattle.wm_rules.specs.declared.reading.FromFault.{FromFault}
 use Rattle.wm_rules.specs.declared.reading.FromFault.TheVariants as fault
 use Rattle.wm_command.specs.Outcome.{IsOutput, IsRefusalLine, IsReport, IsRightFor, OutOf}
@@ -76,12 +77,12 @@ out_of_refusal action judged p limit q s (Some input) left r why j =
 
 -- The line of an input's refusal is an output of the action, and right for the bytes read.
 pub out_of_fault : {A : Type 0} (IsRight : List ℕ → Option (List ℕ) → A → Type 0) (action : Action) → IsJudged action → (p : Profile) (limit : ℕ) (q : Policy) (s : Spellings) (all left : Option (List ℕ)) (f : FromFault)
-    → AnswersSource IsRight p limit q all left (Err f) → (r : Refusal) → f ≡ fault.Refused r → r.why ≢ Memory
+    → AnswersSource IsRight p limit q all left (Err f) → (r : Refusal) → (x : Found) × (f ≡ fault.Refused r x) → r.why ≢ Memory
     → IsOutput action (refusal_line r.at r.why) status.Refused
     × IfSome all (λ input. IsRightFor action p limit q s input left (refusal_line r.at r.why) status.Refused)
 out_of_fault IsRight action judged p limit q s all left f answers r is why = (
   inr (line_of_action action judged r.at r.why why, refl),
-  out_of_refusal action judged p limit q s all left r why (subst (λ z. AnswersSource IsRight p limit q all left (Err z)) is answers),
+  out_of_refusal action judged p limit q s all left r why (subst (λ z. AnswersSource IsRight p limit q all left (Err z)) is.1 answers),
 )
 
 -- The action writes `form m` for a module m that it loaded.

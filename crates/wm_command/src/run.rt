@@ -2,6 +2,7 @@
 
 ghost use Rattle.std.specs.Prelude.{◌≡◌, ◌≢◌, ◌≤◌, ◌^◌, ◌↔◌, ◌||◌, ◌⊎◌, ℕ, List, IfSome, false, true};
 ghost use Rattle.wm_syntax.specs.Values.{value_of};
+ghost use Rattle.wm_rules.specs.declared.found.Found.{Found};
 ghost use Rattle.wm_rules.specs.inner.Loaders.{module_in};
 ghost use Rattle.wm_write.specs.Canon.{canon};
 ghost use Rattle.wm_write.specs.Layout.{layout};
@@ -178,7 +179,7 @@ fn write_text<W: Dest>(checked: &Checked, w: &mut W) -> Status
 fn answer_fault<W: Dest>(alloc: Global, fault: FromFault, w: &mut W) -> Ended
     requires { W.has_failed w.old ≡ false }
     ensures answered { fault ≢ FromFault.Io → result.status ≢ Status.Memory → (refusal : Refusal)
-        × (fault ≡ FromFault.Refused refusal)
+        × ((found : Found) × (fault ≡ FromFault.Refused refusal found))
         × (refusal.why ≢ Why.Memory)
         × IsAnswered (refusal_line refusal.at refusal.why) Status.Refused
         (W.contents w.old) (W.contents w.new) (W.has_failed w.new) (W.is_flushed w.new) result.status }
@@ -188,11 +189,11 @@ fn answer_fault<W: Dest>(alloc: Global, fault: FromFault, w: &mut W) -> Ended
     ensures told { IsTold result (W.contents w.old) (W.contents w.new) }
 {
     match fault {
-        FromFault::Refused(refusal) => Ended {
+        FromFault::Refused(refusal, found) => Ended {
             status: refuse(alloc, refusal, w),
             detail: Some(Detail::Input {
                 refusal,
-                found: None,
+                found: Some(found),
             }),
         },
         FromFault::Io => Ended {
