@@ -24,7 +24,7 @@ use wm_command::status::{Status, exit_code};
 use wm_command::witness::Witness;
 use wm_decode::Refusal;
 use wm_read::spellings::Spellings;
-use wm_rules::{FromFault, Policy};
+use wm_rules::{Found, FromFault, Imported, Policy};
 use wm_syntax::io::input::Input;
 use wm_syntax::io::output::Output;
 use wm_syntax::profile::Profile;
@@ -252,7 +252,16 @@ fn texts_of_refusals(rt: HostRuntime) -> Result<(), Fail> {
         why: Why::SectionOrder,
     };
     expect_text(&rt, rt.alloc(), &refusal, wanted)?;
-    expect_text(&rt, rt.alloc(), &FromFault::Refused(refusal), wanted)?;
+    let imported = Imported {
+        functions: 0,
+        globals: 0,
+    };
+    let found = Found {
+        byte: None,
+        place: None,
+        imported,
+    };
+    expect_text(&rt, rt.alloc(), &FromFault::Refused(refusal, found), wanted)?;
     expect_text(&rt, rt.alloc(), &FromFault::Io, "the reader failed")?;
     expect_text(&rt, rt.alloc(), &Status::Io, "input or output failed")
 }

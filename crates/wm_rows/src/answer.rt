@@ -2,6 +2,7 @@
 
 use crate::changes::answer_changes;
 use crate::pieces::{Verdict, is_answered, judge, spread};
+use crate::places::answer_place;
 use crate::row::{Action, Row};
 use crate::tally::{Tally, count};
 use crate::text::{Built, build, is_given_back, read, refuse, say, show, spell};
@@ -35,7 +36,7 @@ fn accept(
     canonical: &[u8],
 ) -> io::Result<String> {
     match row.action {
-        Action::Check | Action::Change(_) | Action::Changes => say(alloc, "valid"),
+        Action::Check | Action::Place | Action::Change(_) | Action::Changes => say(alloc, "valid"),
         Action::Stats => figures(alloc, summary),
         Action::Canon | Action::Build | Action::Read => spell(alloc, canonical),
         Action::Show => show(alloc, row, binary),
@@ -178,6 +179,7 @@ pub fn answer(alloc: Global, row: &Row, tally: &mut Tally) -> io::Result<String>
     match row.action {
         Action::Build => answer_text(alloc, row, tally),
         Action::Read => read(alloc, row),
+        Action::Place => answer_place(alloc, row),
         Action::Change(place) => answer_change(alloc, row, place, tally),
         Action::Changes => answer_changes(alloc, row, tally),
         _ => answer_binary(alloc, row, &row.input, tally),

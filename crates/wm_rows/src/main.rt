@@ -8,6 +8,7 @@
 mod answer;
 mod changes;
 mod pieces;
+mod places;
 mod row;
 mod tally;
 mod text;

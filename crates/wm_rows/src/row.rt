@@ -2,6 +2,7 @@
 //!
 //! ```text
 //! ACTION [OPTIONS] BYTES
+//! place [OPTIONS] BYTES
 //! change PLACE [OPTIONS] BYTES
 //! changes [OPTIONS] BYTES
 //! build [OPTIONS] TEXT
@@ -15,6 +16,7 @@
 //! BYTES are words: `H` is the header of a module, and any other is a byte in two hexadecimal digits.
 //! In a TEXT, `␊` means a line feed. PARTS are a text too, in which `3*a|b` means `aaab`.
 //! `read` instead of `build` allows a text with an invalid module.
+//! `place` means where in the module the input is refused.
 //! `change` means the 255 inputs with another byte at that place, and `changes` those with another byte at
 //! any place.
 
@@ -38,6 +40,8 @@ pub enum Action {
     Canon,
     /// Its text.
     Show,
+    /// Where it is refused, and the byte that decided.
+    Place,
     /// The canonical binary of the valid module that the input, a text, writes.
     Build,
     /// The canonical binary of the module that the input, a text, writes, valid or not.
@@ -88,6 +92,7 @@ fn action_of(line: &str) -> io::Result<(Action, &str)> {
         "stats" => Ok((Action::Stats, rest)),
         "canon" => Ok((Action::Canon, rest)),
         "show" => Ok((Action::Show, rest)),
+        "place" => Ok((Action::Place, rest)),
         "build" => Ok((Action::Build, rest)),
         "read" => Ok((Action::Read, rest)),
         "changes" => Ok((Action::Changes, rest)),

@@ -158,7 +158,7 @@ fn module_of(alloc: Global, row: &Row, binary: &[u8]) -> io::Result<Option<Check
         row.policy,
     ) {
         Ok(checked) => Ok(Some(checked)),
-        Err(FromFault::Refused(refusal)) if refusal.why == Why::Memory => Err(out_of_memory()),
+        Err(FromFault::Refused(refusal, _)) if refusal.why == Why::Memory => Err(out_of_memory()),
         Err(_) => Ok(None),
     }
 }

@@ -3,12 +3,15 @@
 
 mod admit;
 mod assemble;
+mod locate;
 mod rewrite;
 
 use admit::admit;
 use assemble::assemble;
+use locate::locate;
 use rewrite::rewrite;
 use std::alloc::Global;
+use wmod::{Awaits, Place};
 
 /// The bytes of `examples/add.wasm`.
 const ADD: [u8; 41] = [
@@ -21,6 +24,20 @@ const ADD: [u8; 41] = [
 fn admits(alloc: Global) -> bool {
     let (front, rest) = ADD.split_at(20);
     admit(alloc, &[front, rest]).is_ok() && admit(alloc, &[front]).is_err()
+}
+
+/// Whether the end of a module without its last instructions is located in its one body, and a whole module nowhere.
+fn locates(alloc: Global) -> bool {
+    let end = locate(alloc, &[&ADD[..37]]);
+    let in_body = matches!(
+        end,
+        Some(Place {
+            section: 10,
+            item: Some(0),
+            awaits: Awaits::Opcode,
+        })
+    );
+    in_body && locate(alloc, &[&ADD]).is_none()
 }
 
 /// Whether the module is written again, with its one function.
@@ -36,6 +53,7 @@ fn assembles(alloc: Global) -> bool {
 #[test]
 fn samples_of_the_pages(rt: HostRuntime) {
     assert!(rt; admits(rt.alloc()), "admit");
+    assert!(rt; locates(rt.alloc()), "locate");
     assert!(rt; rewrites(rt.alloc()), "rewrite");
     assert!(rt; assembles(rt.alloc()), "assemble");
 }

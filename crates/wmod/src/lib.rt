@@ -5,8 +5,10 @@
 #![tactic(auto)]
 
 // judging a module
-pub use wm_decode::Refusal;
-pub use wm_rules::{FromFault, Policy, Summary, Validator, validate, validate_from};
+pub use wm_decode::{Awaits, Place, Refusal};
+pub use wm_rules::{
+    Found, FromFault, Imported, Policy, Summary, Validator, validate, validate_from,
+};
 pub use wm_syntax::profile::{Feature, Profile};
 pub use wm_syntax::why::Why;
 

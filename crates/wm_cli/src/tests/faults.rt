@@ -119,7 +119,7 @@ impl Answer {
     /// Returns the answer for a fault of `validate_from` or `load_from`.
     fn of_fault(fault: FromFault) -> Self {
         match fault {
-            FromFault::Refused(refusal) => Answer {
+            FromFault::Refused(refusal, _) => Answer {
                 status: Status::Refused,
                 refusal: Some(refusal),
                 written: None,
