@@ -53,7 +53,7 @@ def print_tally():
 
 
 def main():
-    is_well = [does(it) for it in programs("wm_cli") for does in (growths.sweep, growths.is_name_lent, growths.is_long_list_let_go, growths.is_empty_body_free, deep.is_well, command.is_well)]
+    is_well = [does(it) for it in programs("wm_cli") for does in (growths.sweep, growths.sweep_several, growths.is_name_lent, growths.is_long_list_let_go, growths.is_empty_body_free, deep.is_well, command.is_well)]
     is_well += [growths.sweep_rows(it) for it in programs("wm_rows")]
     print_tally()
     wmod = programs("wm_cli")[0]

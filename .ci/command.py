@@ -6,19 +6,36 @@ It ends with status 1 if a run differs from its row, or if rows are missing.
 """
 import os
 import pathlib
+import resource
 import shlex
+import signal
 import subprocess
 import sys
 import tempfile
 
 # the rows, and their least number, so that no row is lost by accident
 ROWS = pathlib.Path(__file__).resolve().parent / "command_rows.txt"
-LEAST = 76
+LEAST = 163
 TYPED = b"(module)"
+SIGN = bytes.fromhex("0061736D01000000 01050160 00017F 03020100 0A08010600 41FF01 C0 0B")
+# what each run finds in its folder
 FILES = {
-    "sign.wasm": bytes.fromhex("0061736D01000000 01050160 00017F 03020100 0A08010600 41FF01 C0 0B"),
-    "old.wat": b"(module (table 1 anyfunc))",
+    b"sign.wasm": SIGN,
+    b"old.wat": b"(module (table 1 anyfunc))",
+    b"bare.wat": b"(module)",
+    b"kept.wasm": b"kept",
+    b"a\nb.wasm": SIGN,
+    b"many.txt": b"sign.wasm\n" * 10_000,
+    b"names.txt": b"sign.wasm\n\nnone.wasm\nold.wat",
+    b"zero.txt": b"sign.wasm\0a\nb.wasm\0",
+    b"returns.txt": b"sign.wasm\r\n",
+    b"bytes.txt": b"\xff.wasm\nsign.wasm\n",
+    b"empty.txt": b"",
+    b"input.txt": b"sign.wasm\n-\n",
+    b"folder/there": b"",
 }
+# the most files that a run may have open at once
+HANDLES = 16
 NAMED = {ord("\t"): r"\t", ord("\n"): r"\n", ord("\r"): r"\r", ord('"'): r"\"", ord("'"): r"\'", ord("\\"): r"\\"}
 
 
@@ -40,7 +57,11 @@ def parts(command):
 
 
 def escaped(text):
-    """Returns the bytes in quotation marks, escaped as in a row."""
+    """Returns the bytes in quotation marks, escaped as in a row. More than 99 lines that are all alike are one line, `*`
+    and their number."""
+    lines = text.splitlines(keepends=True)
+    if len(lines) > 99 and len(set(lines)) == 1:
+        return f"{escaped(lines[0])}*{len(lines)}"
     return '"' + "".join(NAMED.get(byte, chr(byte) if 32 <= byte < 127 else f"\\x{byte:02x}") for byte in text) + '"'
 
 
@@ -51,35 +72,66 @@ def closed_pipe():
     return write
 
 
-def answer(program, command, folder):
-    """Runs the command of a row. Returns its status and outputs in the form of a row."""
-    words, given = parts(command)
+def limited(size):
+    """Limits the open files of this process, and the size of each file that it writes unless `size` is None."""
+    resource.setrlimit(resource.RLIMIT_NOFILE, (HANDLES, HANDLES))
+    if size is not None:
+        # a write past the limit is then an error and no signal
+        signal.signal(signal.SIGXFSZ, signal.SIG_IGN)
+        resource.setrlimit(resource.RLIMIT_FSIZE, (size, size))
+
+
+def held(folder):
+    """Returns the bytes of each file below a folder, by its name."""
+    files = [path for path in pathlib.Path(folder).rglob("*") if path.is_file()]
+    return {os.fsencode(path.relative_to(folder)): path.read_bytes() for path in files}
+
+
+def changes(before, after):
+    """Returns the files that a run made or changed, with their bytes, and those that it removed, as a row has them."""
+    made = [f" {escaped(name)}={escaped(after[name])}" for name in sorted(after) if after[name] != before.get(name)]
+    gone = [f" {escaped(name)} removed" for name in sorted(before.keys() - after.keys())]
+    return "".join(made + gone)
+
+
+def played(program, words, given, folder):
+    """Runs the words of a row in a folder. Returns the status and outputs in the form of a row."""
     is_shut = words[0] == b"shut"
+    size = int(words[1]) if words[0] == b"within" else None
     out = closed_pipe() if is_shut else subprocess.PIPE
     # (the usage in a complaint has the name by which the program is called)
-    named = [b"wmod", *words[is_shut + 1 :]]
-    ran = subprocess.run(named, executable=program, input=given, stdout=out, stderr=subprocess.PIPE, cwd=folder, timeout=60, check=False)
+    named = [b"wmod", *words[words.index(b"wmod") + 1 :]]
+    ran = subprocess.run(named, executable=program, input=given, stdout=out, stderr=subprocess.PIPE, cwd=folder, timeout=60, check=False, preexec_fn=lambda: limited(size))
     if is_shut:
         os.close(out)
     return f"{ran.returncode} {escaped(ran.stdout or b'')} {escaped(ran.stderr)}"
 
 
+def answer(program, command):
+    """Runs the command of a row in a folder that has `FILES`. Returns its answer in the form of a row."""
+    words, given = parts(command)
+    with tempfile.TemporaryDirectory(prefix="command-") as folder:
+        for name, bytes_of in FILES.items():
+            path = pathlib.Path(folder, os.fsdecode(name))
+            path.parent.mkdir(exist_ok=True)
+            path.write_bytes(bytes_of)
+        said = played(program, words, given, folder)
+        return said + changes(FILES, held(folder))
+
+
 def is_well(program):
     """Whether each run has the answer of its row. Prints the runs that differ."""
     wrong = 0
-    with tempfile.TemporaryDirectory(prefix="command-") as folder:
-        for name, held in FILES.items():
-            pathlib.Path(folder, name).write_bytes(held)
-        played = rows()
-        for command, wanted in played:
-            found = answer(program, command, folder)
-            if wanted.startswith("as "):
-                wanted = answer(program, wanted.removeprefix("as "), folder)
-            if found != wanted:
-                wrong += 1
-                print(f"command: {command}: {found}", flush=True)
-    few = "" if len(played) >= LEAST else f"; at least {LEAST} are required"
-    print(f"command: {len(played)} rows, {wrong} wrong{few}", flush=True)
+    asked = rows()
+    for command, wanted in asked:
+        found = answer(program, command)
+        if wanted.startswith("as "):
+            wanted = answer(program, wanted.removeprefix("as "))
+        if found != wanted:
+            wrong += 1
+            print(f"command: {command}: {found}", flush=True)
+    few = "" if len(asked) >= LEAST else f"; at least {LEAST} are required"
+    print(f"command: {len(asked)} rows, {wrong} wrong{few}", flush=True)
     return not wrong and not few
 
 

@@ -5,6 +5,7 @@
 It ends with status 1 if a test fails. A growth is a call of malloc, calloc or realloc. With a growth refused,
 
 - wmod ends with status 4, its one line and no output, or with the answer that it gives with ample memory;
+- wmod over several files may also end with status 4 and with lines for some of the files;
 - wm_rows ends with all answers of ample memory, or with status 1, its one line and some of these answers, each whole.
 
 The growths of wmod are also counted:
@@ -87,6 +88,24 @@ def runs_of(program):
         yield words, b""
 
 
+def runs_of_several():
+    """Yields runs over several files, and runs that write a file. Fails if one of these leaves another file behind."""
+    module = bytes_of(MODULES["an if"])
+    with tempfile.TemporaryDirectory(prefix="growths-") as room:
+        path, made = f"{room}/in", f"{room}/out"
+        with open(path, "wb") as it:
+            it.write(module)
+        for action in ("check", "stats"):
+            yield [action, path, "/none", path, "-"], b""
+            yield [action, "--from", "-"], f"{path}\n/none\n{path}\n".encode()
+        yield ["canon", "-o", made, path], b""
+        yield ["show", "-o", made], module
+        yield ["build", "-o", made], TEXT.encode()
+        yield ["build", "-o", made], b"(module (start $f))"
+        if sorted(os.listdir(room)) != ["in", "out"]:
+            raise SystemExit(f"growths: files are left behind: {os.listdir(room)}")
+
+
 def compiler():
     return needs.found(needs.COMPILER)
 
@@ -130,6 +149,24 @@ def kind_of(ended, ample):
     if ended == (*ample[:2], lines[0] + b"\n"):
         return "as with ample memory, but for a second line of standard error"
     return "wrong"
+
+
+def kind_of_several(ended, ample):
+    kind = kind_of(ended, ample)
+    if kind != "wrong":
+        return kind
+    # a file for which memory was refused has no line of standard output
+    if ended[0] == OUT_OF_MEMORY[0] and OUT_OF_MEMORY[2] in ended[2] and are_lines_of(ended[1], ample[1]):
+        return "status 4, with lines for other files"
+    if ended[:2] == ample[:2] and are_lines_of(ended[2], ample[2]):
+        return "as with ample memory, but for lines of standard error"
+    return "wrong"
+
+
+def are_lines_of(some, whole):
+    """Whether the lines of a text are lines of another one, in the same order."""
+    lines = iter(whole.splitlines())
+    return all(line in lines for line in some.splitlines())
 
 
 def kind_of_rows(ended, ample):
@@ -243,6 +280,10 @@ def sweep(program):
     return swept("wmod", program, runs_of(program), kind_of)
 
 
+def sweep_several(program):
+    return swept("wmod over several files", program, runs_of_several(), kind_of_several)
+
+
 def sweep_rows(program):
     return swept("wm_rows", program, [([], ROWS.encode())], kind_of_rows)
 
@@ -251,5 +292,5 @@ if __name__ == "__main__":
     if len(sys.argv) != 2:
         sys.exit(__doc__)
     is_of_rows = os.path.basename(sys.argv[1]).startswith("wm_rows")
-    trials = [sweep_rows] if is_of_rows else [sweep, is_name_lent, is_long_list_let_go, is_empty_body_free]
+    trials = [sweep_rows] if is_of_rows else [sweep, sweep_several, is_name_lent, is_long_list_let_go, is_empty_body_free]
     sys.exit(0 if all([is_well(sys.argv[1]) for is_well in trials]) else 1)

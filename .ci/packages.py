@@ -35,8 +35,14 @@ COMPLETED = {
     ("",): "check stats canon show build explain",
     ("c",): "check canon",
     ("check", "--l"): "--limit",
-    ("build", "--o"): "--old-words",
+    ("build", "--o"): "--old-words --output",
+    ("canon", "--o"): "--output",
     ("check", "--o"): "",
+    ("check", "--f"): "--from",
+    ("stats", "--n"): "--null",
+    ("show", "--n"): "",
+    ("check", "--from", ""): "",
+    ("canon", "-o", ""): "",
     ("check", "--profile", ""): "1 2 3 4",
     ("check", "--profile", "=", ""): "1 2 3 4",
     ("check", "--limit", ""): "",
@@ -257,7 +263,7 @@ def check_example(it, page, folder, answers):
     status, said = run("sh", "-c", examples[0], wanted=None, cwd=folder.parent, env=it.with_program())
     wanted = [f"{folder.name}/{file.name}: {answer}" for file, (_, answer) in answers.items()]
     same("the lines of the example for a folder", sorted(said.splitlines(True)), sorted(wanted))
-    same("the status of the example for a folder", status, 123 if any(status for status, _ in answers.values()) else 0)
+    same("the status of the example for a folder", status, max(status for status, _ in answers.values()))
 
 
 def check_pages(it):

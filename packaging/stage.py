@@ -51,8 +51,11 @@ def interface():
 
 
 def names():
-    """Returns the NAMEs that `wmod explain` knows, each once."""
-    return list(dict.fromkeys(re.findall(r"(?m)^    (\w+) \| ", REFUSALS.read_text(encoding="utf-8"))))
+    """Returns the NAMEs that `wmod explain` knows, each once. Ends this script if there are none."""
+    found = list(dict.fromkeys(re.findall(r"(?m)^    (\w+) \| ", REFUSALS.read_text(encoding="utf-8"))))
+    if not found:
+        sys.exit(f"wmod: {REFUSALS} has no NAME of a refusal")
+    return found
 
 
 def one_object(archive, room):

@@ -7,9 +7,11 @@ import re
 # The lines of `wmod --help` that list an action or an option.
 ACTION = re.compile(r" {2}(?P<name>\w+) {2,}(?P<says>.+)")
 OPTION = re.compile(r" {2,6}(?:-(?P<short>\w), )?--(?P<name>[\w-]+)(?: <(?P<value>\w+)>)? {2,}(?P<says>.+)")
-# The help text of an option that lists its values, such as `1, 2 or 3: ..`, and of one that a single action takes.
+# The help text of an option that lists its values, such as `1, 2 or 3: ..`, and of one that only some actions take.
 VALUES = re.compile(r"\d+(?:, \d+)* or \d+\b")
-ONLY = re.compile(r"With `(\w+)`: ")
+ONLY = re.compile(r"With (`\w+`(?:(?:, | or )`\w+`)*): ")
+# the value of an option that names a file
+FILE = "FILE"
 
 Action = collections.namedtuple("Action", "name says")
 Option = collections.namedtuple("Option", "short name value says values only")
@@ -33,7 +35,7 @@ def each(form, line):
 
 def option(short, name, value, says):
     values, only = VALUES.match(says), ONLY.match(says)
-    return Option(short, name, value, says, re.findall(r"\d+", values[0]) if values else (), only[1] if only else None)
+    return Option(short, name, value, says, re.findall(r"\d+", values[0]) if values else (), re.findall(r"\w+", only[1]) if only else ())
 
 
 def filled(template, texts):
@@ -102,16 +104,28 @@ def bash(said):
     actions = [it.name for it in said.actions]
     values = [f'    --{it.name}) mapfile -t COMPREPLY < <(compgen -W "{" ".join(it.values)}" -- "$word") && return ;;'
               for it in said.options if it.values]
-    # a number is no name of a file
-    numbers = " | ".join(f"--{it.name}" for it in said.options if it.value and not it.values)
+    # bash completes the name of a file by itself; a number is none
+    files = " | ".join(spelled for it in said.options if it.value == FILE for spelled in spellings(it))
+    numbers = " | ".join(f"--{it.name}" for it in said.options if it.value not in (None, FILE) and not it.values)
     return filled(BASH, {
         "ACTIONS": " | ".join(actions),
         "WORDS": " ".join(actions),
         "NAMES": " ".join(said.names),
         "OPTIONS": " ".join(f"--{it.name}" for it in said.options if not it.only),
-        "ONLY": "\n".join(f'    {it.only}) options+=" --{it.name}" ;;' for it in said.options if it.only),
-        "VALUES": "\n".join([*values, f"    {numbers}) compopt +o default +o bashdefault && return ;;"]),
+        "ONLY": "\n".join(f'    {action}) options+=" {" ".join(f"--{it.name}" for it in options)}" ;;' for action, options in by_action(said)),
+        "VALUES": "\n".join([*values, f"    {files}) return ;;", f"    {numbers}) compopt +o default +o bashdefault && return ;;"]),
     })
+
+
+def spellings(it):
+    """Returns the words that name an option."""
+    return [f"-{it.short}", f"--{it.name}"] if it.short else [f"--{it.name}"]
+
+
+def by_action(said):
+    """Returns each action that takes options of its own, with these options."""
+    pairs = [(action.name, [it for it in said.options if action.name in it.only]) for action in said.actions]
+    return [pair for pair in pairs if pair[1]]
 
 
 ZSH = """\
@@ -129,14 +143,14 @@ options=(
 @OPTIONS@
 )
 @ONLY@
-local operand='2:file:_files'
+local operand='*:file:_files'
 if (( $words[(I)explain] )); then operand='2:NAME:(@NAMES@)'; fi
 _arguments $options '1:action:_wmod_actions' $operand
 """
 
 
 def zsh(said):
-    only = [f"if (( $words[(I){it.only}] )); then options+=({zsh_option(it)}); fi" for it in said.options if it.only]
+    only = [f"if (( $words[(I){action}] )); then options+=({' '.join(map(zsh_option, options))}); fi" for action, options in by_action(said)]
     return filled(ZSH, {
         "ACTIONS": "\n".join("    " + quoted(f"{it.name}:{plain(it.says)}") for it in said.actions),
         "OPTIONS": "\n".join("  " + zsh_option(it) for it in said.options if not it.only),
@@ -147,9 +161,13 @@ def zsh(said):
 
 def zsh_option(it):
     says = "[" + re.sub(r"([\[\]\\:])", r"\\\1", plain(it.says)) + "]"
-    values = f"({' '.join(it.values)})" if it.values else " "
-    takes = f"={says}:{it.value}:{values}" if it.value else says
-    return f"'(- *)'{{-{it.short},--{it.name}}}{quoted(takes)}" if it.short else quoted(f"--{it.name}{takes}")
+    values = f"({' '.join(it.values)})" if it.values else "_files" if it.value == FILE else " "
+    says, long, short = (f"{says}:{it.value}:{values}", "=", "+") if it.value else (says, "", "")
+    if not it.short:
+        return quoted(f"--{it.name}{long}{says}")
+    # nothing goes with a request for the help or the version
+    without = "- *" if it.name in ("help", "version") else f"-{it.short} --{it.name}"
+    return f"'({without})'{{-{it.short}{short},--{it.name}{long}}}{quoted(says)}"
 
 
 def plain(text):
@@ -173,9 +191,9 @@ def fish(said):
 def fish_option(it):
     words = [f"-s {it.short}"] if it.short else []
     words += [f"-l {it.name}"]
-    words += ["-x"] if it.value else []
+    words += ["-r"] if it.value == FILE else ["-x"] if it.value else []
     words += [f"-a '{' '.join(it.values)}'"] if it.values else []
-    words += [f"-n '__fish_seen_subcommand_from {it.only}'"] if it.only else []
+    words += [f"-n '__fish_seen_subcommand_from {' '.join(it.only)}'"] if it.only else []
     return fish_line(*words, says=it.says)
 
 

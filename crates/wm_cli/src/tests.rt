@@ -18,7 +18,7 @@ use std::io;
 use std::io::ErrorKind;
 use std::process::Abort;
 use std::test::Fail;
-use wm_command::arguments::{Action, Line, LineFault};
+use wm_command::arguments::{Action, Inputs, Line, LineFault};
 use wm_command::run::run_line;
 use wm_command::status::{Status, exit_code};
 use wm_command::witness::Witness;
@@ -178,14 +178,16 @@ fn exit_statuses(rt: HostRuntime) {
 }
 
 /// Returns the line of `wmod check`, with no file.
-fn plain_line() -> Line {
+fn plain_line() -> Line<'static> {
     Line {
         action: Action::Check,
         profile: Profile::ONE,
         limit: LIMIT,
         policy: Policy::no_limits(),
         spellings: Spellings::Standard,
-        file: None,
+        inputs: Inputs::One(None),
+        output: None,
+        quiet: false,
     }
 }
 

@@ -3,5 +3,7 @@ pub mod Building
 pub mod Codes
 pub mod Details
 pub mod Lines
+pub mod Lists
 pub mod Outcome
 pub mod Refused
+pub mod Several

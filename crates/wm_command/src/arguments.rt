@@ -1,4 +1,4 @@
-//! The command line as a value: the action, the options and the file.
+//! The command line as a value: the action, the options and the files.
 
 ghost use Rattle.std.specs.Prelude.{◌≤◌, ◌^◌};
 
@@ -25,45 +25,67 @@ pub enum Action {
     Build,
 }
 
+/// The byte that ends each name of a list.
+#[derive(Clone, Copy, PartialEq, Eq, Debug)]
+pub enum Ending {
+    /// A line feed.
+    Line,
+    /// A zero byte.
+    Zero,
+}
+
+impl Ending {
+    ghost use Rattle.std.specs.Prelude.{◌≡◌};
+    ghost use Rattle.wm_command.specs.Lists.{ending_byte};
+
+    /// Returns the byte.
+    pub fn byte(self) -> u8
+        ensures { result ≡ ending_byte self }
+    {
+        match self {
+            Ending::Line => b'\n',
+            Ending::Zero => 0,
+        }
+    }
+}
+
+/// The inputs that a line names.
+#[derive(Debug, Drop)]
+pub enum Inputs<'a> {
+    /// One file. `None` and `-` are standard input.
+    One(Option<&'a str>),
+    /// Several files, in this order.
+    Several(Vec<&'a str>),
+    /// The files whose names the list has. `-` is a list on standard input.
+    Listed(&'a str, Ending),
+}
+
 /// The parsed command line.
 #[derive(Debug, Drop)]
-pub struct Line {
+pub struct Line<'a> {
     pub action: Action,
     /// The instructions and value types that the module may use.
     pub profile: Profile,
-    /// The most bytes that the input may have, at most 2^62.
+    /// The most bytes that an input may have, at most 2^62.
     pub limit: u64,
     /// The limits on functions, locals and open blocks of the module.
     pub policy: Policy,
     /// The keywords that a text may use. Only `build` may have older ones.
     pub spellings: Spellings,
-    /// The file to read. `None` and `-` are standard input.
-    pub file: Option<String>,
+    /// The files to read. Only `check` and `stats` may have several, or a list.
+    pub inputs: Inputs<'a>,
+    /// The file to write. `None` and `-` are standard output. Only `canon`, `show` and `build` may have one.
+    pub output: Option<&'a str>,
+    /// Whether a refusal has no line of detail on standard error.
+    pub quiet: bool,
     ghost in_range: { limit ≤ 2 ^ 62 },
-}
-
-impl Line {
-    ghost use Rattle.std.specs.Prelude.{◌≡◌, option_map};
-    ghost use Rattle.std.specs.String.{string_bytes};
-    ghost use Rattle.wm_command.specs.Lines.{path_of};
-
-    /// Returns the path of the file to read, or `None` for standard input.
-    pub fn path(&self) -> Option<&str>
-        ensures { option_map (λ s. s.now) result ≡ path_of (option_map string_bytes self.now.file) }
-    {
-        match &self.file {
-            None => None,
-            Some(name) if name.as_str() == "-" => None,
-            Some(name) => Some(name.as_str()),
-        }
-    }
 }
 
 /// The request that the arguments make.
 #[derive(Debug, Drop)]
 pub enum Request<'a> {
-    /// An action on an input.
-    Run(Line),
+    /// An action on inputs.
+    Run(Line<'a>),
     /// The meaning of this NAME, or `None` if there is no NAME.
     Explain(Option<&'a str>),
     /// The help.
@@ -75,8 +97,8 @@ pub enum Request<'a> {
 pub enum LineFault {
     /// The fault of `clap`, with its text. A request for help or for the version is one too.
     Parser(clap::Error),
-    /// An unknown action or profile, a number that is malformed or out of range, or `--old-words` with an
-    /// action other than `build`. Also a NAME of `explain` that is missing or unknown.
+    /// An unknown action or profile, or a number that is malformed or out of range. Also a file or an option that the
+    /// action does not take, and a NAME of `explain` that is missing or unknown.
     Words,
     /// Memory was refused.
     Memory,

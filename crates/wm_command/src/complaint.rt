@@ -5,7 +5,6 @@ ghost use Rattle.wm_command.specs.Codes.{fault_code};
 ghost use Rattle.wm_command.specs.declared.status.Status.{Status};
 
 use crate::arguments::LineFault;
-use crate::explain::Wrong;
 use crate::line::wrong_word;
 use crate::status::Status;
 use clap::error::ErrorKind;
@@ -126,10 +125,20 @@ pub fn complain_of<R: Eprint, D: Display>(rt: &R, what: &D, file: &str, cause: i
     }
 }
 
-/// Whether these arguments, the first of which is the program's name, are `explain`, without options.
-fn is_plain_explain(words: &[String]) -> bool {
-    let has_option = words.iter().any(|word| word.as_str().starts_with('-'));
-    !has_option && words.get(1).is_some_and(|word| word.as_str() == "explain")
+/// Writes `what`, and then the file and a sentence about it, as two lines on standard error. It has no contract, as
+/// `complain`.
+pub fn complain_about<R: Eprint, D: Display>(rt: &R, what: &D, file: &str, sentence: &str) {
+    complain(rt, what);
+    let _ = eprintln!(rt; "wmod: {}: {sentence}", Escaped(file));
+}
+
+/// Reports that standard output failed, with its error. It has no contract, as `complain`.
+pub fn complain_of_output<R: Eprint>(rt: &R, error: Option<io::Error>) {
+    match error {
+        Some(error) => complain_of(rt, &Status::Io, "standard output", error),
+        // a write that accepted no byte is a failure without an error
+        None => complain(rt, &Status::Io),
+    }
 }
 
 /// Reports a fault of `clap` on standard error. It has no contract, as `complain`.
@@ -140,9 +149,6 @@ fn complain_of_parse<R: Eprint + AllocGlobal>(rt: &R, words: &[String], error: &
     {
         complain(rt, &LineFault::Words);
         complain(rt, &ControlWord(word.as_str()));
-    } else if error.kind() == ErrorKind::UnknownArgument && is_plain_explain(words) {
-        complain(rt, &LineFault::Words);
-        complain(rt, &Wrong::Count);
     } else {
         let _ = eprint!(rt; "{}", Fault(error));
     }

@@ -1,7 +1,8 @@
 //! The line on standard error that says more about a refusal: its place, what was found there, and what is wrong.
 
-ghost use Rattle.std.specs.Prelude.{◌≡◌, ◌≤◌, drop, length, take};
+ghost use Rattle.std.specs.Prelude.{◌≡◌, ◌≤◌, None, drop, length, take};
 
+use crate::arguments::Line;
 use crate::complaint::{Escaped, complain};
 use crate::hints::{hint_for, section_name};
 use crate::position::{Position, is_first, locate};
@@ -23,6 +24,19 @@ pub struct Ended {
     pub status: Status,
     /// `None` if the input is not refused.
     pub detail: Option<Detail>,
+}
+
+impl Ended {
+    /// Returns the end of a run without a refusal.
+    pub fn with(status: Status) -> Ended
+        ensures status { result.status ≡ status }
+        ensures detail { result.detail ≡ None }
+    {
+        Ended {
+            status,
+            detail: None,
+        }
+    }
 }
 
 /// What is known of a refusal.
@@ -375,10 +389,11 @@ impl fmt::Display for Named<'_> {
     }
 }
 
-/// Writes a line on standard error for the refusal with which a run ended, and nothing for another end. It has no
-/// contract: none of std states what standard error gets.
-pub fn complain_detail<R: Eprint>(rt: &R, file: &str, ended: &Ended) {
-    if let (Status::Refused, Some(detail)) = (ended.status, &ended.detail) {
-        complain(rt, &Named(file, detail));
+/// Writes a line on standard error for the refusal with which a run of this command line ended, and nothing for another
+/// end. A quiet command line has none. It has no contract: none of std states what standard error gets.
+pub fn complain_detail<R: Eprint>(rt: &R, line: &Line<'_>, file: &str, ended: &Ended) {
+    match (ended.status, &ended.detail) {
+        (Status::Refused, Some(detail)) if !line.quiet => complain(rt, &Named(file, detail)),
+        _ => {}
     }
 }

@@ -1,16 +1,19 @@
-//! Opens the file that a line names, and runs the line's action on it.
+//! Opens the files that a line names, and runs the line's action on them.
 
 ghost use Rattle.std.specs.Prelude.{◌≡◌, ◌≢◌, ℕ, List, Option, Some, None, IfOk, IfSome, option_map};
-ghost use Rattle.std.specs.String.{string_bytes};
-ghost use Rattle.wm_command.specs.Lines.{path_of};
+ghost use Rattle.wm_command.specs.Several.{IsRightAt, IsRightOn};
 ghost use Rattle.wm_command.specs.declared.status.Status.{Status};
 ghost use Rattle.wm_command.specs.Outcome.{IsRightFor};
 
-use crate::arguments::Line;
+use crate::arguments::{Inputs, Line};
 use crate::complaint::{complain, complain_of};
 use crate::detail::complain_detail;
+use crate::list::execute_list;
+use crate::path::path_by;
 use crate::run::run_line;
+use crate::several::execute_each;
 use crate::status::Status;
+use crate::target::follow_to;
 use crate::witness::Witness;
 use std::io::{BufWriter, Read};
 use std::rt::Files;
@@ -45,24 +48,37 @@ impl<R: Files> Opens for System<'_, R> {
     }
 }
 
-/// Opens the input that the line names, and runs its action. Returns `Io` if the file cannot be opened. No
-/// contract of std states what standard input gives.
-pub fn execute<R: Input + Print + Eprint + AllocGlobal, O: Opens>(
+/// Opens the inputs that the line names, and runs its action on each. Returns `Io` if a file cannot be opened, unless
+/// another status is greater. No contract of std states what standard input gives.
+pub fn execute<R: Files + Input + Print + Eprint + AllocGlobal, O: Opens>(
     rt: &R,
     files: &O,
-    line: &Line,
+    line: &Line<'_>,
 ) -> Status
-    // The status is right for the bytes of the file that the line names.
-    ensures { result ≢ Status.Io → result ≢ Status.Memory
-        → IfSome (path_of (option_map string_bytes line.now.file)) (λ path. IfSome (O.held_at files.now path)
-        (λ input. (left : Option (List ℕ)) × (text : List ℕ)
-        × IsRightFor line.now.action line.now.profile line.now.limit line.now.policy line.now.spellings input
-        left text result)) }
+    // The status is right for the bytes of the files that the line names.
+    ensures { IsRightOn (O.held_at files.now) line.now line.now.inputs result }
 {
-    match line.path() {
-        None => follow(rt, line, "standard input", rt.reader()),
+    match &line.inputs {
+        Inputs::One(name) => execute_one(rt, files, line, *name),
+        Inputs::Several(names) => execute_each(rt, files, line, names.as_slice()),
+        Inputs::Listed(list, ending) => execute_list(rt, files, line, list, *ending),
+    }
+}
+
+/// Opens the input with this name, and runs the line's action on it. Returns `Io` if the file cannot be opened.
+fn execute_one<R: Files + Input + Print + Eprint + AllocGlobal, O: Opens>(
+    rt: &R,
+    files: &O,
+    line: &Line<'_>,
+    name: Option<&str>,
+) -> Status
+    // The status is right for the bytes of the file.
+    ensures { IsRightAt (O.held_at files.now) line.now (option_map (λ s. s.now) name.entry) result }
+{
+    match path_by(name) {
+        None => follow_into(rt, line, "standard input", rt.reader()),
         Some(path) => match files.open(path) {
-            Ok(file) => follow(rt, line, path, file),
+            Ok(file) => follow_into(rt, line, path, file),
             Err(error) => {
                 complain_of(rt, &Status::Io, path, error);
                 Status::Io
@@ -71,11 +87,31 @@ pub fn execute<R: Input + Print + Eprint + AllocGlobal, O: Opens>(
     }
 }
 
+/// Runs the action of the line on this reader, and writes to the line's output. A message on standard error calls the
+/// reader `name`.
+fn follow_into<R: Files + Print + Eprint + AllocGlobal, I: Read + Drop>(
+    rt: &R,
+    line: &Line<'_>,
+    name: &str,
+    reader: I,
+) -> Status
+    // The status is right for the bytes that the reader gives and for this line.
+    ensures { result ≢ Status.Io → result ≢ Status.Memory → IfSome (I.remaining reader)
+        (λ input. (left : Option (List ℕ)) × (text : List ℕ)
+        × IsRightFor line.now.action line.now.profile line.now.limit line.now.policy line.now.spellings input
+        left text result) }
+{
+    match path_by(line.output) {
+        None => follow(rt, line, name, reader),
+        Some(target) => follow_to(rt, line, name, reader, target),
+    }
+}
+
 /// Runs the action of the line on this reader, and writes to standard output. A message on standard error calls
 /// the reader `name`.
 fn follow<R: Print + Eprint + AllocGlobal, I: Read + Drop>(
     rt: &R,
-    line: &Line,
+    line: &Line<'_>,
     name: &str,
     reader: I,
 ) -> Status
@@ -96,7 +132,7 @@ fn follow<R: Print + Eprint + AllocGlobal, I: Read + Drop>(
     let ended = run_line(rt.alloc(), line, &mut source, &mut dest);
     let status = ended.status;
     match status {
-        Status::Done | Status::Refused => complain_detail(rt, name, &ended),
+        Status::Done | Status::Refused => complain_detail(rt, line, name, &ended),
         Status::Memory => complain(rt, &status),
         Status::Io => match (source.into_inner().error(), dest.into_inner().error()) {
             (Some(error), _) => complain_of(rt, &status, name, error),

@@ -7,7 +7,7 @@ ghost use Rattle.wm_command.specs.declared.arguments.LineFault.TheVariants.{Memo
 
 use crate::answer::answer;
 use crate::arguments::LineFault;
-use crate::complaint::{Escaped, complain, complain_of};
+use crate::complaint::{Escaped, complain, complain_of_output};
 use crate::line::help_text;
 use crate::status::Status;
 use crate::witness::Witness;
@@ -81,15 +81,6 @@ pub fn help<R: Print + Eprint + AllocGlobal>(rt: &R) -> Result<Status, LineFault
         complain_of_output(rt, dest.into_inner().error());
     }
     Ok(status)
-}
-
-/// Reports that standard output failed, with its error.
-fn complain_of_output<R: Eprint>(rt: &R, error: Option<io::Error>) {
-    match error {
-        Some(error) => complain_of(rt, &Status::Io, "standard output", error),
-        // a write that accepted no byte is a failure without an error
-        None => complain(rt, &Status::Io),
-    }
 }
 
 /// Writes what a NAME means. Fails with `Words` if no refusal has it, and with `Memory` if memory is refused. Both

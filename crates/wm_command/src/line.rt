@@ -1,21 +1,26 @@
 //! Parses the command line, and finds the first argument whose value is wrong. Also the text of the help.
 
 ghost use Rattle.std.specs.Prelude.{ℕ, ◌≡◌, ◌≢◌, ◌<◌, ◌≤◌, ◌^◌, ◌⊎◌, ◌↔◌, [], Option, Some, false, codes, map};
-ghost use Rattle.std.specs.Prelude.{option_map, IfOk, IfErr, IfSome, IsTrue, SomeIff, MatchOption};
+ghost use Rattle.std.specs.Prelude.{option_map, IfOk, IfErr, IfSome, IsSome, IsTrue, None, SomeIff, MatchOption};
+ghost use Rattle.std.specs.Prelude.{length};
 ghost use Rattle.std.specs.Str.Parse.{IsNumeral, digits_value};
 ghost use Rattle.clap.specs.Words.{app_of, fault_of, first_value, found_of, rule_of};
 ghost use Rattle.wm_command.specs.declared.arguments.Action.TheVariants.{Build};
 ghost use Rattle.wm_command.specs.declared.arguments.LineFault.TheVariants.{Memory, Words};
-ghost use Rattle.wm_command.specs.Lines.{Asks, AsksNothing, IsActionWord, IsFaultOf, IsLimit, IsMost, IsPolicy};
-ghost use Rattle.wm_command.specs.Lines.{IsProfile, IsSpellings, IsWrong, NamesProfile, NoneIsWrong, Says, SaysNone, Stands};
-ghost use Rattle.wm_command.specs.Lines.{action_name, action_rule, file_rule, flag_rule};
-ghost use Rattle.wm_command.specs.Lines.{option_rule, versioned, wmod, word_of};
+ghost use Rattle.wm_command.specs.Lines.{Asks, AsksNothing, FilesFit, GivesInputs, IsActionWord, IsEnding, IsFaultOf, IsLimit};
+ghost use Rattle.wm_command.specs.Lines.{IsMost, IsPolicy, IsProfile, IsSpellings, IsWrong, NamesNoOther, NamesProfile};
+ghost use Rattle.wm_command.specs.Lines.{NoneIsWrong, Says, SaysNone, Stands, TakesMany, WritesModule};
+ghost use Rattle.wm_command.specs.Lines.{action_name, action_rule, file_rule, file_rules, files_found, files_of, flag_rule};
+ghost use Rattle.wm_command.specs.Lines.{head_of, module_rules, option_rule};
+ghost use Rattle.wm_command.specs.Lines.{versioned, with_letter, with_rules, wmod, word_of};
+ghost use Rattle.wm_command.specs.declared.arguments.Inputs.{Inputs};
 ghost use Rattle.wm_read.specs.declared.spellings.Spellings.{Spellings};
 ghost use Rattle.wm_rules.specs.declared.policy.Policy.{Policy};
 ghost use Rattle.wm_syntax.specs.declared.profile.Profile.{Profile};
 
-use crate::arguments::{Action, Line, LineFault, Request};
+use crate::arguments::{Action, Ending, Inputs, Line, LineFault, Request};
 use crate::complaint::Escaped;
+use crate::explain::Wrong;
 use clap::error::ErrorKind;
 use clap::{Arg, ArgAction, ArgMatches, Command};
 use std::alloc::{AllocError, Global};
@@ -80,6 +85,26 @@ fn is_action_word(text: &str) -> bool
     }
 }
 
+/// Whether an action with this word reads several files, or a list of names.
+fn takes_many(text: &str) -> bool
+    ensures { IsTrue result ↔ TakesMany text.now }
+{
+    match text {
+        "check" | "stats" => true,
+        _ => false,
+    }
+}
+
+/// Whether an action with this word writes a module, so that it may write it to a file.
+fn writes_module(text: &str) -> bool
+    ensures { IsTrue result ↔ WritesModule text.now }
+{
+    match text {
+        "canon" | "show" | "build" => true,
+        _ => false,
+    }
+}
+
 /// Returns the profile with this number, `1` to `4`, or `None` for any other text.
 fn profile_of(text: &str) -> Option<Profile>
     ensures { MatchOption result ((p : Profile) → NamesProfile text.now p → ⊥) (NamesProfile text.now) }
@@ -107,6 +132,8 @@ const ANSWERS: &str =
     token, and LINE and COLUMN are where it begins.\n\
     It prints `module refused at N: NAME` for an invalid module: N counts bytes of its canonical binary.\n\
     `wmod explain NAME` explains a NAME.\n\n\
+    `check` and `stats` print a line for each of several files, such as `FILE: valid`. The run goes on after a\n\
+    refusal or a file that cannot be read, and the greatest exit status is returned.\n\n\
     A module of 30 bytes may declare 2^32 - 1 locals, which `show` writes as 17 GB of text. For untrusted\n\
     modules set --max-functions F and --max-locals L: locals then take at most about 4 F L bytes.\n\n\
     Exit status: 0 done, 1 refused, 2 wrong arguments, 3 cannot read or write, 4 out of memory.\n\n\
@@ -114,10 +141,12 @@ const ANSWERS: &str =
     wmod check module.wasm\n  \
     wmod check --profile 3 with_floats.wasm\n  \
     wmod stats --limit 1000000 < module.wasm\n  \
+    wmod check first.wasm second.wasm\n  \
+    find modules -name '*.wasm' -print0 | wmod check --from - --null\n  \
     wmod canon module.wasm > canonical.wasm\n  \
     wmod show module.wasm > module.wat\n  \
     wmod show --max-functions 1000 --max-locals 1000 stranger.wasm > stranger.wat\n  \
-    wmod build module.wat > module.wasm\n  \
+    wmod build module.wat --output module.wasm\n  \
     wmod build --old-words older.wat > module.wasm\n  \
     wmod explain Index";
 
@@ -137,6 +166,14 @@ const MAX_OPEN: &str =
 
 const OLD_WORDS: &str = "With `build`: accept the names of older tools too, such as get_local";
 
+const FROM: &str = "With `check` or `stats`: read the names of the files from FILE, one a line";
+
+const NULL: &str = "With `check` or `stats`: a zero byte ends each name of --from, not a line feed";
+
+const OUTPUT: &str = "With `canon`, `show` or `build`: write to FILE, and change it only if all is written";
+
+const QUIET: &str = "Print no line of detail for a refusal on standard error";
+
 fn action_arg<'a>(alloc: Global) -> Arg<'a>
     ensures rule { rule_of result ≡ action_rule }
     ensures local { result.global ≡ false }
@@ -144,17 +181,17 @@ fn action_arg<'a>(alloc: Global) -> Arg<'a>
     Arg::new(alloc, "ACTION")
         .required(true)
         .action(ArgAction::Set)
-        .help("check, stats, canon, show, build or explain")
+        .help("check, stats, canon, show, build, explain or help")
 }
 
-/// Returns an option that takes one value, shown as `N` in the help.
-fn option_arg<'a>(alloc: Global, name: &'a str, help: &'a str) -> Arg<'a>
+/// Returns an option that takes one value, shown as `value` in the help.
+fn option_arg<'a>(alloc: Global, name: &'a str, value: &'a str, help: &'a str) -> Arg<'a>
     ensures rule { rule_of result ≡ option_rule name.entry.now }
     ensures local { result.global ≡ false }
 {
     Arg::new(alloc, name)
         .long(name)
-        .value_name("N")
+        .value_name(value)
         .action(ArgAction::Set)
         .help(help)
 }
@@ -169,12 +206,20 @@ fn flag_arg<'a>(alloc: Global, name: &'a str, help: &'a str) -> Arg<'a>
         .help(help)
 }
 
+/// Returns the argument with a second name of one letter.
+fn with_short<'a>(arg: Arg<'a>, letter: char) -> Arg<'a>
+    ensures rule { rule_of result ≡ with_letter letter (rule_of arg.entry) }
+    ensures local { result.global ≡ arg.entry.global }
+{
+    arg.short(letter)
+}
+
 fn file_arg<'a>(alloc: Global) -> Arg<'a>
     ensures rule { rule_of result ≡ file_rule }
     ensures local { result.global ≡ false }
 {
-    Arg::new(alloc, "FILE").action(ArgAction::Set).help(
-        "The file to read; standard input if FILE is missing or it is -",
+    Arg::new(alloc, "FILE").action(ArgAction::Append).help(
+        "The file to read; standard input if FILE is missing or it is -. `check` and `stats` take several",
     )
 }
 
@@ -188,19 +233,38 @@ fn bare_command<'a>(alloc: Global) -> Command<'a>
         .after_help(ANSWERS)
 }
 
+/// Adds the options on profiles and limits to the command, and `--old-words`.
+fn with_rules_of_modules<'a>(alloc: Global, command: Command<'a>) -> Result<Command<'a>, AllocError>
+    ensures { IfOk result (λ c. app_of c ≡ with_rules (app_of command.entry) module_rules) }
+{
+    command
+        .arg(option_arg(alloc, "profile", "N", PROFILE))?
+        .arg(option_arg(alloc, "limit", "N", LIMIT))?
+        .arg(option_arg(alloc, "max-functions", "N", MAX_FUNCTIONS))?
+        .arg(option_arg(alloc, "max-locals", "N", MAX_LOCALS))?
+        .arg(option_arg(alloc, "max-open", "N", MAX_OPEN))?
+        .arg(flag_arg(alloc, "old-words", OLD_WORDS))
+}
+
+/// Adds the options on files to the command, and `--quiet`.
+fn with_rules_of_files<'a>(alloc: Global, command: Command<'a>) -> Result<Command<'a>, AllocError>
+    ensures { IfOk result (λ c. app_of c ≡ with_rules (app_of command.entry) file_rules) }
+{
+    command
+        .arg(option_arg(alloc, "from", "FILE", FROM))?
+        .arg(with_short(flag_arg(alloc, "null", NULL), '0'))?
+        .arg(with_short(option_arg(alloc, "output", "FILE", OUTPUT), 'o'))?
+        .arg(with_short(flag_arg(alloc, "quiet", QUIET), 'q'))?
+        .arg(file_arg(alloc))
+}
+
 /// Returns the command for `clap`. Fails with `AllocError` if memory is refused.
 fn command<'a>(alloc: Global) -> Result<Command<'a>, AllocError>
     ensures { IfOk result (λ c. app_of c ≡ wmod) }
 {
-    bare_command(alloc)
-        .arg(action_arg(alloc))?
-        .arg(option_arg(alloc, "profile", PROFILE))?
-        .arg(option_arg(alloc, "limit", LIMIT))?
-        .arg(option_arg(alloc, "max-functions", MAX_FUNCTIONS))?
-        .arg(option_arg(alloc, "max-locals", MAX_LOCALS))?
-        .arg(option_arg(alloc, "max-open", MAX_OPEN))?
-        .arg(flag_arg(alloc, "old-words", OLD_WORDS))?
-        .arg(file_arg(alloc))
+    let command = bare_command(alloc).arg(action_arg(alloc))?;
+    let command = with_rules_of_modules(alloc, command)?;
+    with_rules_of_files(alloc, command)
 }
 
 /// Returns the profile that the value of `--profile` names: `ONE` if the option is absent, and `None` if no
@@ -267,14 +331,75 @@ fn spellings_by(flag: Option<&str>, action: Action) -> Option<Spellings>
     }
 }
 
-/// Returns the line that the arguments describe. Fails with `Words` if there is none, and with `Memory` if
-/// memory is refused.
-fn read_line(alloc: Global, matches: &ArgMatches<'_>) -> Result<Line, LineFault>
-    ensures ok { IfOk result (Says (first_value (found_of matches.now))) }
-    ensures fault { IfErr result (λ e. ((e ≡ Words) × SaysNone (first_value (found_of matches.now)))
+/// Whether the flag with this name is present.
+fn has_flag(matches: &ArgMatches<'_>, name: &str) -> bool
+    ensures { IsTrue result ↔ Stands (first_value (found_of matches.now) name.now) }
+{
+    match matches.get_str(name) {
+        Some("true") => true,
+        _ => false,
+    }
+}
+
+/// Returns the byte that ends each name of a list.
+fn ending_in(matches: &ArgMatches<'_>) -> Ending
+    ensures { IsEnding (first_value (found_of matches.now) (codes "null")) result }
+{
+    if has_flag(matches, "null") {
+        Ending::Zero
+    } else {
+        Ending::Line
+    }
+}
+
+/// Returns the inputs that `--from`, `--null` and FILE give. `is_for_many` says whether there may be several. Fails with
+/// `Words` if there are none, and with `Memory` if memory is refused.
+fn inputs_in<'a>(
+    alloc: Global,
+    matches: &ArgMatches<'a>,
+    is_for_many: bool,
+) -> Result<Inputs<'a>, LineFault>
+    ensures ok { IfOk result (GivesInputs (first_value (found_of matches.now))
+        (files_found (found_of matches.now)) (IsTrue is_for_many)) }
+    ensures fault { IfErr result (λ e. ((e ≡ Words) × ((i : Inputs) → GivesInputs (first_value (found_of matches.now))
+        (files_found (found_of matches.now)) (IsTrue is_for_many) i → ⊥))
         ⊎ (e ≡ Memory)) }
 {
-    let Some(action) = matches.get_str("ACTION").and_then(action_of) else {
+    match (matches.get_str("from"), matches.get_raw("FILE")) {
+        (Some(list), None | Some([])) if is_for_many => Ok(Inputs::Listed(list, ending_in(matches))),
+        (Some(_), _) => Err(LineFault::Words),
+        (None, _) if has_flag(matches, "null") => Err(LineFault::Words),
+        (None, None | Some([])) => Ok(Inputs::One(None)),
+        (None, Some([name])) => Ok(Inputs::One(Some(*name))),
+        (None, Some(files)) if is_for_many => Ok(Inputs::Several(files.to_vec(alloc)?)),
+        _ => Err(LineFault::Words),
+    }
+}
+
+/// Returns the value of `--output`, or `None` if it is present and the action writes no module.
+fn output_by(name: Option<&str>, writes: bool) -> Option<Option<&str>>
+    ensures { let said = option_map (λ s. s.now) name.entry in
+        MatchOption result ((IsSome said → IsTrue writes) → ⊥)
+        (λ output. (said ≡ option_map (λ s. s.now) output) × (IsSome said → IsTrue writes)) }
+{
+    match name {
+        Some(_) if !writes => None,
+        _ => Some(name),
+    }
+}
+
+/// Returns the line that the arguments describe. Fails with `Words` if there is none, and with `Memory` if
+/// memory is refused.
+fn read_line<'a>(alloc: Global, matches: &ArgMatches<'a>) -> Result<Line<'a>, LineFault>
+    ensures ok { IfOk result (Says (first_value (found_of matches.now)) (files_found (found_of matches.now))) }
+    ensures fault { IfErr result (λ e. ((e ≡ Words)
+        × SaysNone (first_value (found_of matches.now)) (files_found (found_of matches.now)))
+        ⊎ (e ≡ Memory)) }
+{
+    let Some(word) = matches.get_str("ACTION") else {
+        return Err(LineFault::Words);
+    };
+    let Some(action) = action_of(word) else {
         return Err(LineFault::Words);
     };
     let Some(profile) = profile_by(matches.get_str("profile")) else {
@@ -289,33 +414,72 @@ fn read_line(alloc: Global, matches: &ArgMatches<'_>) -> Result<Line, LineFault>
     let Some(spellings) = spellings_by(matches.get_str("old-words"), action) else {
         return Err(LineFault::Words);
     };
-    let file = match matches.get_str("FILE") {
-        None => None,
-        Some(name) => Some(String::from_str(alloc, name)?),
+    let Some(output) = output_by(matches.get_str("output"), writes_module(word)) else {
+        return Err(LineFault::Words);
     };
+    let inputs = inputs_in(alloc, matches, takes_many(word))?;
     Ok(Line {
         action,
         profile,
         limit,
         policy,
         spellings,
-        file,
+        inputs,
+        output,
+        quiet: has_flag(matches, "quiet"),
     })
+}
+
+/// Whether neither a list nor a file to write is named.
+fn names_no_other(matches: &ArgMatches<'_>) -> bool
+    ensures { IsTrue result ↔ NamesNoOther (first_value (found_of matches.now)) }
+{
+    matches.get_str("from").is_none() && matches.get_str("output").is_none()
+}
+
+/// Returns what `explain` asks for. Fails with `Words` if FILE has several values, or if `--from` or `--output` is
+/// present.
+fn read_name<'a>(matches: &ArgMatches<'a>) -> Result<Request<'a>, LineFault>
+    requires { first_value (found_of matches.now) (codes "ACTION") ≡ Some (codes "explain") }
+    ensures ok { IfOk result (Asks (first_value (found_of matches.now)) (files_found (found_of matches.now))) }
+    ensures fault { IfErr result (λ e. (e ≡ Words)
+        × AsksNothing (first_value (found_of matches.now)) (files_found (found_of matches.now))) }
+{
+    match matches.get_raw("FILE") {
+        _ if !names_no_other(matches) => Err(LineFault::Words),
+        None | Some([]) => Ok(Request::Explain(None)),
+        Some([name]) => Ok(Request::Explain(Some(*name))),
+        _ => Err(LineFault::Words),
+    }
+}
+
+/// Returns what `help` asks for. Fails with `Words` if FILE has several values or one that is no word for ACTION, or if
+/// `--from` or `--output` is present.
+fn read_topic<'a>(matches: &ArgMatches<'a>) -> Result<Request<'a>, LineFault>
+    requires { first_value (found_of matches.now) (codes "ACTION") ≡ Some (codes "help") }
+    ensures ok { IfOk result (Asks (first_value (found_of matches.now)) (files_found (found_of matches.now))) }
+    ensures fault { IfErr result (λ e. (e ≡ Words)
+        × AsksNothing (first_value (found_of matches.now)) (files_found (found_of matches.now))) }
+{
+    match matches.get_raw("FILE") {
+        _ if !names_no_other(matches) => Err(LineFault::Words),
+        None | Some([]) => Ok(Request::Help),
+        Some([topic]) if is_action_word(topic) => Ok(Request::Help),
+        _ => Err(LineFault::Words),
+    }
 }
 
 /// Returns what the arguments ask for. Fails with `Words` if they ask for nothing, and with `Memory` if memory is
 /// refused.
 fn read<'a>(alloc: Global, matches: &ArgMatches<'a>) -> Result<Request<'a>, LineFault>
-    ensures ok { IfOk result (Asks (first_value (found_of matches.now))) }
-    ensures fault { IfErr result (λ e. ((e ≡ Words) × AsksNothing (first_value (found_of matches.now)))
+    ensures ok { IfOk result (Asks (first_value (found_of matches.now)) (files_found (found_of matches.now))) }
+    ensures fault { IfErr result (λ e. ((e ≡ Words)
+        × AsksNothing (first_value (found_of matches.now)) (files_found (found_of matches.now)))
         ⊎ (e ≡ Memory)) }
 {
     match matches.get_str("ACTION") {
-        Some("explain") => Ok(Request::Explain(matches.get_str("FILE"))),
-        Some("help") => match no_topic(matches) {
-            None => Ok(Request::Help),
-            Some(_) => Err(LineFault::Words),
-        },
+        Some("explain") => read_name(matches),
+        Some("help") => read_topic(matches),
         _ => match read_line(alloc, matches) {
             Ok(line) => Ok(Request::Run(line)),
             Err(fault) => Err(fault),
@@ -329,7 +493,7 @@ fn read<'a>(alloc: Global, matches: &ArgMatches<'a>) -> Result<Request<'a>, Line
 pub fn request<'a, S: AsStr>(alloc: Global, words: &'a [S]) -> Result<Request<'a>, LineFault>
     // `clap` accepts the arguments, and they ask for this.
     ensures ok { let texts = map S.text words.entry.now in
-        IfOk result (λ r. (fault_of wmod texts ≡ []) × Asks (word_of texts) r) }
+        IfOk result (λ r. (fault_of wmod texts ≡ []) × Asks (word_of texts) (files_of texts) r) }
     // Either `clap` has a fault of this kind, or it accepts the arguments and they ask for nothing, or memory was
     // refused.
     ensures fault { IfErr result (IsFaultOf (map S.text words.entry.now)) }
@@ -358,6 +522,16 @@ pub enum WrongWord<'a> {
     MaxOpen(&'a str),
     /// The value of ACTION where `--old-words` is present and the action is not `build`.
     OldWords(&'a str),
+    /// The value of ACTION where FILE has several values and the action takes one at most.
+    Several(&'a str),
+    /// The value of ACTION where `--from` is present and the action takes no list.
+    From(&'a str),
+    /// The first value of FILE where `--from` is present.
+    Beside(&'a str),
+    /// The flag `--null` where `--from` is absent.
+    Null,
+    /// The value of ACTION where `--output` is present and the action writes no module.
+    Output(&'a str),
 }
 
 /// Writes that `word` is no value for the policy option `option`.
@@ -370,12 +544,25 @@ fn no_number<W: fmt::Write>(f: &mut fmt::Formatter<W>, word: &str, option: &str)
     )
 }
 
+/// Writes that an action with this word does not take several values of FILE.
+fn no_several_files<W: fmt::Write>(f: &mut fmt::Formatter<W>, word: &str) -> fmt::Result {
+    match word {
+        "explain" => write!(f, "{}", Wrong::Count),
+        "help" => f.write_str("help takes one ACTION at most, such as show"),
+        _ => write!(
+            f,
+            "'{}' takes one FILE at most: only check and stats take several",
+            Escaped(word)
+        ),
+    }
+}
+
 impl fmt::Display for WrongWord<'_> {
     fn fmt<W: fmt::Write>(&self, f: &mut fmt::Formatter<W>) -> fmt::Result {
         match self {
             WrongWord::Action(word) | WrongWord::Topic(word) => write!(
                 f,
-                "'{}' is no action: check, stats, canon, show, build, or explain alone",
+                "'{}' is no action: check, stats, canon, show, build, explain or help",
                 Escaped(word)
             ),
             WrongWord::Profile(word) => {
@@ -392,6 +579,23 @@ impl fmt::Display for WrongWord<'_> {
             WrongWord::OldWords(word) => write!(
                 f,
                 "'{}' takes no --old-words: only build does",
+                Escaped(word)
+            ),
+            WrongWord::Several(word) => no_several_files(f, word),
+            WrongWord::From(word) => write!(
+                f,
+                "'{}' takes no --from: only check and stats do",
+                Escaped(word)
+            ),
+            WrongWord::Beside(word) => write!(
+                f,
+                "'{}' is a FILE beside --from: give one or the other",
+                Escaped(word)
+            ),
+            WrongWord::Null => f.write_str("--null is only for --from"),
+            WrongWord::Output(word) => write!(
+                f,
+                "'{}' takes no --output: only canon, show and build do",
                 Escaped(word)
             ),
         }
@@ -412,16 +616,15 @@ fn no_action<'a>(matches: &ArgMatches<'a>) -> Option<&'a str>
     }
 }
 
-/// Returns the value of FILE if ACTION is `help`, and FILE is no word for ACTION.
+/// Returns the first value of FILE if ACTION is `help`, and that value is no word for ACTION.
 fn no_topic<'a>(matches: &ArgMatches<'a>) -> Option<&'a str>
-    ensures { let word = first_value (found_of matches.now) in
-        MatchOption result
-        (word (codes "ACTION") ≡ Some (codes "help") → IfSome (word (codes "FILE")) IsActionWord)
-        (λ text. (word (codes "ACTION") ≡ Some (codes "help")) × (word (codes "FILE") ≡ Some text.now)
-        × (IsActionWord text.now → ⊥)) }
+    ensures { let action = first_value (found_of matches.now) (codes "ACTION") in
+        let topic = head_of (files_found (found_of matches.now)) in
+        MatchOption result (action ≡ Some (codes "help") → IfSome topic IsActionWord)
+        (λ text. (action ≡ Some (codes "help")) × (topic ≡ Some text.now) × (IsActionWord text.now → ⊥)) }
 {
     let action = matches.get_str("ACTION")?;
-    let topic = matches.get_str("FILE")?;
+    let topic = *matches.get_raw("FILE")?.first()?;
     if action != "help" || is_action_word(topic) {
         None
     } else {
@@ -489,10 +692,99 @@ fn no_build<'a>(matches: &ArgMatches<'a>) -> Option<&'a str>
     }
 }
 
+/// Returns the value of ACTION if FILE has several values and the action takes one at most.
+fn no_several<'a>(matches: &ArgMatches<'a>) -> Option<&'a str>
+    ensures { let action = first_value (found_of matches.now) (codes "ACTION") in
+        let files = files_found (found_of matches.now) in
+        MatchOption result (1 < length files → IfSome action TakesMany)
+        (λ text. (action ≡ Some text.now) × (TakesMany text.now → ⊥) × (1 < length files)) }
+{
+    let action = matches.get_str("ACTION")?;
+    if takes_many(action) || matches.get_raw("FILE")?.len() <= 1 {
+        None
+    } else {
+        Some(action)
+    }
+}
+
+/// Returns the value of ACTION if `--from` is present and the action takes no list.
+fn no_list<'a>(matches: &ArgMatches<'a>) -> Option<&'a str>
+    ensures { let word = first_value (found_of matches.now) in
+        MatchOption result (IsSome (word (codes "from")) → IfSome (word (codes "ACTION")) TakesMany)
+        (λ text. (word (codes "ACTION") ≡ Some text.now) × (TakesMany text.now → ⊥)
+        × IsSome (word (codes "from"))) }
+{
+    let action = matches.get_str("ACTION")?;
+    if takes_many(action) || matches.get_str("from").is_none() {
+        None
+    } else {
+        Some(action)
+    }
+}
+
+/// Returns the first value of FILE if `--from` is present.
+fn file_beside_list<'a>(matches: &ArgMatches<'a>) -> Option<&'a str>
+    ensures { let from = first_value (found_of matches.now) (codes "from") in
+        let file = head_of (files_found (found_of matches.now)) in
+        MatchOption result (IsSome from → file ≡ None) (λ text. IsSome from × (file ≡ Some text.now)) }
+{
+    if matches.get_str("from").is_none() {
+        return None;
+    }
+    matches.get_raw("FILE")?.first().copied()
+}
+
+/// Whether `--null` is present and `--from` is not.
+fn is_null_alone(matches: &ArgMatches<'_>) -> bool
+    ensures { let word = first_value (found_of matches.now) in
+        IsTrue result ↔ (Stands (word (codes "null")) × (word (codes "from") ≡ None)) }
+{
+    has_flag(matches, "null") && matches.get_str("from").is_none()
+}
+
+/// Returns the value of ACTION if `--output` is present and the action writes no module.
+fn no_output<'a>(matches: &ArgMatches<'a>) -> Option<&'a str>
+    ensures { let word = first_value (found_of matches.now) in
+        MatchOption result (IsSome (word (codes "output")) → IfSome (word (codes "ACTION")) WritesModule)
+        (λ text. (word (codes "ACTION") ≡ Some text.now) × (WritesModule text.now → ⊥)
+        × IsSome (word (codes "output"))) }
+{
+    let action = matches.get_str("ACTION")?;
+    if writes_module(action) || matches.get_str("output").is_none() {
+        None
+    } else {
+        Some(action)
+    }
+}
+
+/// Returns the first wrong value among those of files, in the order several values of FILE, `--from`, FILE beside it,
+/// `--null`, `--output`.
+fn wrong_in_files<'a>(matches: &ArgMatches<'a>) -> Option<WrongWord<'a>>
+    ensures { let word = first_value (found_of matches.now) in let files = files_found (found_of matches.now) in
+        MatchOption result (FilesFit word files) (IsWrong word files) }
+{
+    if let Some(action) = no_several(matches) {
+        return Some(WrongWord::Several(action));
+    }
+    if let Some(action) = no_list(matches) {
+        return Some(WrongWord::From(action));
+    }
+    if let Some(file) = file_beside_list(matches) {
+        return Some(WrongWord::Beside(file));
+    }
+    if is_null_alone(matches) {
+        return Some(WrongWord::Null);
+    }
+    if let Some(action) = no_output(matches) {
+        return Some(WrongWord::Output(action));
+    }
+    None
+}
+
 /// Returns the first wrong value of `--max-functions`, `--max-locals` and `--max-open`, in this order.
 fn wrong_in_policy<'a>(matches: &ArgMatches<'a>) -> Option<WrongWord<'a>>
     ensures { let word = first_value (found_of matches.now) in
-        MatchOption result ((q : Policy) × IsPolicy word q) (IsWrong word) }
+        MatchOption result ((q : Policy) × IsPolicy word q) (IsWrong word (files_found (found_of matches.now))) }
 {
     if let Some(word) = no_most(matches, "max-functions") {
         return Some(WrongWord::MaxFunctions(word));
@@ -507,10 +799,10 @@ fn wrong_in_policy<'a>(matches: &ArgMatches<'a>) -> Option<WrongWord<'a>>
 }
 
 /// Returns the first wrong value, in the order ACTION, the word after `help`, `--profile`, `--limit`, `--max-functions`,
-/// `--max-locals`, `--max-open`, `--old-words`. Returns `None` if no value is wrong.
+/// `--max-locals`, `--max-open`, `--old-words`, and then those of files. Returns `None` if no value is wrong.
 fn wrong_in<'a>(matches: &ArgMatches<'a>) -> Option<WrongWord<'a>>
-    ensures { let word = first_value (found_of matches.now) in
-        MatchOption result (NoneIsWrong word) (IsWrong word) }
+    ensures { let word = first_value (found_of matches.now) in let files = files_found (found_of matches.now) in
+        MatchOption result (NoneIsWrong word files) (IsWrong word files) }
 {
     if let Some(word) = no_action(matches) {
         return Some(WrongWord::Action(word));
@@ -530,7 +822,7 @@ fn wrong_in<'a>(matches: &ArgMatches<'a>) -> Option<WrongWord<'a>>
     if let Some(action) = no_build(matches) {
         return Some(WrongWord::OldWords(action));
     }
-    None
+    wrong_in_files(matches)
 }
 
 /// Returns the first wrong value among these arguments, the first of which is the program's name. Returns
@@ -541,7 +833,8 @@ pub fn wrong_word<'a, S: AsStr>(
     words: &'a [S],
 ) -> Result<Option<WrongWord<'a>>, AllocError>
     ensures { let texts = map S.text words.entry.now in IfOk result (λ wrong.
-        MatchOption wrong (fault_of wmod texts ≡ [] → NoneIsWrong (word_of texts)) (IsWrong (word_of texts))) }
+        MatchOption wrong (fault_of wmod texts ≡ [] → NoneIsWrong (word_of texts) (files_of texts))
+        (IsWrong (word_of texts) (files_of texts))) }
 {
     match command(alloc)?.try_get_matches_from(words) {
         Ok(matches) => Ok(wrong_in(&matches)),

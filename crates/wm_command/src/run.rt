@@ -90,7 +90,7 @@ pub fn run<R: Source, W: Dest>(
 }
 
 /// Runs the action of the line on this input, as `run` does.
-pub fn run_line<R: Source, W: Dest>(alloc: Global, line: &Line, r: &mut R, w: &mut W) -> Ended
+pub fn run_line<R: Source, W: Dest>(alloc: Global, line: &Line<'_>, r: &mut R, w: &mut W) -> Ended
     requires source { R.has_failed r.old ≡ false }
     requires dest { W.has_failed w.old ≡ false }
     // The whole text that is right for the input is written, or a prefix of it if the writer failed.

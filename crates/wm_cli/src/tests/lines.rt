@@ -30,7 +30,10 @@ read wmod --old-words help help = help
 read wmod help Index = words 2
 read wmod Explain Index = words 2
 read wmod explain --help = parser 0
-read wmod explain Index Type = parser 2
+read wmod explain Index Type = words 2
+read wmod explain --from a = words 2
+read wmod explain -o a = words 2
+read wmod explain -q -0 = explain None
 read wmod explain --most = parser 2
 read wmod run = words 2
 read wmod check --profile 0 = words 2
@@ -69,20 +72,43 @@ read wmod check --max-locals = parser 2
 read wmod check --max-open=1 --max-open=2 = parser 2
 read wmod build --old-words --old-words = parser 2
 read wmod build --old-words=true = parser 2
-read wmod check a b = parser 2
+read wmod check a b = Check One 4294967295 None None None Standard several ["a", "b"]
+read wmod stats a --limit 7 - a = Stats One 7 None None None Standard several ["a", "-", "a"]
+read wmod check --from a = Check One 4294967295 None None None Standard from "a" Line
+read wmod stats -0 --from=- = Stats One 4294967295 None None None Standard from "-" Zero
+read wmod check --quiet --null --from a = Check One 4294967295 None None None Standard from "a" Zero quiet
+read wmod canon a -o b = Canon One 4294967295 None None None Standard Some("a") Some("a") to "b" Some("b")
+read wmod build --output=- -q = Build One 4294967295 None None None Standard None None to "-" None quiet
+read wmod show -ob = Show One 4294967295 None None None Standard None None to "b" Some("b")
+read wmod canon a b = words 2
+read wmod show --from a = words 2
+read wmod check --from a b = words 2
+read wmod check -0 = words 2
+read wmod check -0 a = words 2
+read wmod check -o a = words 2
+read wmod stats --output "" = words 2
+read wmod help check stats = words 2
+read wmod help --from a = words 2
+read wmod help --output a = words 2
+read wmod check -o = parser 2
+read wmod check --from = parser 2
+read wmod check -q -q = parser 2
+read wmod canon -o a -o b = parser 2
+read wmod check --from=a --from=b = parser 2
+read wmod check -x = parser 2
 read wmod run --limit = parser 2
 read wmod --help = parser 0
 read wmod --version = parser 0
 read wmod --most = parser 2
-wrong wmod run --limit x = 'run' is no action: check, stats, canon, show, build, or explain alone
-wrong wmod help Run = 'Run' is no action: check, stats, canon, show, build, or explain alone
+wrong wmod run --limit x = 'run' is no action: check, stats, canon, show, build, explain or help
+wrong wmod help Run = 'Run' is no action: check, stats, canon, show, build, explain or help
 wrong wmod help build --limit x = 'x' is no limit: decimal digits, at most 4611686018427387904
 wrong wmod explain run = none
-wrong wmod CHECK = 'CHECK' is no action: check, stats, canon, show, build, or explain alone
+wrong wmod CHECK = 'CHECK' is no action: check, stats, canon, show, build, explain or help
 wrong wmod check --limit 0x10 = '0x10' is no limit: decimal digits, at most 4611686018427387904
 wrong wmod check --profile 5 = '5' is no profile: 1, 2, 3, 4
 wrong wmod check --profile "" = '' is no profile: 1, 2, 3, 4
-wrong wmod run --profile 5 --limit x --max-functions x --max-locals x --max-open x --old-words = 'run' is no action: check, stats, canon, show, build, or explain alone
+wrong wmod run --profile 5 --limit x --max-functions x --max-locals x --max-open x --old-words = 'run' is no action: check, stats, canon, show, build, explain or help
 wrong wmod check --profile 5 --limit x --max-functions x --max-locals x --max-open x --old-words = '5' is no profile: 1, 2, 3, 4
 wrong wmod check --limit x --max-functions x --max-locals x --max-open x --old-words = 'x' is no limit: decimal digits, at most 4611686018427387904
 wrong wmod check --max-functions x --max-locals x --max-open x --old-words = 'x' is no number for --max-functions: decimal digits, at most 4294967295
@@ -91,6 +117,18 @@ wrong wmod check --max-open x --old-words = 'x' is no number for --max-open: dec
 wrong wmod check --old-words = 'check' takes no --old-words: only build does
 wrong wmod check --limit 7 --max-functions 0 --max-locals 0 --max-open 0 a = none
 wrong wmod build --old-words = none
+wrong wmod canon a b -o c --from d -0 = 'canon' takes one FILE at most: only check and stats take several
+wrong wmod explain a b = explain takes one NAME of a refusal, such as Index
+wrong wmod help check stats = help takes one ACTION at most, such as show
+wrong wmod help a stats = 'a' is no action: check, stats, canon, show, build, explain or help
+wrong wmod canon a --from d = 'canon' takes no --from: only check and stats do
+wrong wmod check a b --from d -o c = 'a' is a FILE beside --from: give one or the other
+wrong wmod check -0 a -o c = --null is only for --from
+wrong wmod check a -o c = 'check' takes no --output: only canon, show and build do
+wrong wmod check a b = none
+wrong wmod check --from a -0 -q = none
+wrong wmod show -o a b = none
+wrong wmod --old-words show a b = 'show' takes no --old-words: only build does
 wrong wmod check --profile 4 --limit 7 a = none
 wrong wmod --most = none"#;
 
@@ -101,17 +139,21 @@ const HELP: &str = "Checks and converts WebAssembly 1.0 modules, reading them on
     show     write a valid module as text: one line per field, and one per instruction\n  \
     build    read a module as text, and write it in canonical binary form\n  \
     explain  print what the NAME of a refusal means: `wmod explain NAME`\n\n\
-    Usage: wmod [OPTIONS] <ACTION> [FILE]\n\n\
+    Usage: wmod [OPTIONS] <ACTION> [FILE]...\n\n\
     Arguments:\n  \
-    <ACTION>  check, stats, canon, show, build or explain\n  \
-    [FILE]    The file to read; standard input if FILE is missing or it is -\n\n\
+    <ACTION>   check, stats, canon, show, build, explain or help\n  \
+    [FILE]...  The file to read; standard input if FILE is missing or it is -. `check` and `stats` take several\n\n\
     Options:\n      \
     --profile <N>        1, 2, 3 or 4: floats under 3 and 4, sign extension under 2 and 4 [default: 1]\n      \
     --limit <N>          The maximum length of the input in bytes [default: 4294967295]\n      \
     --max-functions <N>  The maximum number of functions, imported ones included [default: no limit]\n      \
     --max-locals <N>     The maximum number of locals a function declares [default: no limit]\n      \
     --max-open <N>       The maximum number of blocks, loops and ifs open at once [default: no limit]\n      \
-    --old-words          With `build`: accept the names of older tools too, such as get_local\n  \
+    --old-words          With `build`: accept the names of older tools too, such as get_local\n      \
+    --from <FILE>        With `check` or `stats`: read the names of the files from FILE, one a line\n  \
+    -0, --null               With `check` or `stats`: a zero byte ends each name of --from, not a line feed\n  \
+    -o, --output <FILE>      With `canon`, `show` or `build`: write to FILE, and change it only if all is written\n  \
+    -q, --quiet              Print no line of detail for a refusal on standard error\n  \
     -h, --help               Print help\n  \
     -V, --version            Print version\n\n\
     Any other input gives `refused at N: NAME`: N bytes were read when it was decided.\n\
@@ -119,6 +161,8 @@ const HELP: &str = "Checks and converts WebAssembly 1.0 modules, reading them on
     token, and LINE and COLUMN are where it begins.\n\
     It prints `module refused at N: NAME` for an invalid module: N counts bytes of its canonical binary.\n\
     `wmod explain NAME` explains a NAME.\n\n\
+    `check` and `stats` print a line for each of several files, such as `FILE: valid`. The run goes on after a\n\
+    refusal or a file that cannot be read, and the greatest exit status is returned.\n\n\
     A module of 30 bytes may declare 2^32 - 1 locals, which `show` writes as 17 GB of text. For untrusted\n\
     modules set --max-functions F and --max-locals L: locals then take at most about 4 F L bytes.\n\n\
     Exit status: 0 done, 1 refused, 2 wrong arguments, 3 cannot read or write, 4 out of memory.\n\n\
@@ -126,15 +170,17 @@ const HELP: &str = "Checks and converts WebAssembly 1.0 modules, reading them on
     wmod check module.wasm\n  \
     wmod check --profile 3 with_floats.wasm\n  \
     wmod stats --limit 1000000 < module.wasm\n  \
+    wmod check first.wasm second.wasm\n  \
+    find modules -name '*.wasm' -print0 | wmod check --from - --null\n  \
     wmod canon module.wasm > canonical.wasm\n  \
     wmod show module.wasm > module.wat\n  \
     wmod show --max-functions 1000 --max-locals 1000 stranger.wasm > stranger.wat\n  \
-    wmod build module.wat > module.wasm\n  \
+    wmod build module.wat --output module.wasm\n  \
     wmod build --old-words older.wat > module.wasm\n  \
     wmod explain Index\n";
 
 const MISSING: &str = "error: the following required arguments were not provided:\n  <ACTION>\n\n\
-    Usage: wmod <ACTION> [FILE]\n\n\
+    Usage: wmod <ACTION> [FILE]...\n\n\
     For more information, try '--help'.\n";
 
 #[test]

@@ -1,8 +1,9 @@
 //! Rows: lines with a call and its answer.
 //!
 //! ```text
-//! read WORDS = ACTION PROFILE LIMIT FUNCTIONS LOCALS DEPTH SPELLINGS FILE PATH, or `explain` and NAME, or `help`, or
-//!     the fault's kind and exit status
+//! read WORDS = ACTION PROFILE LIMIT FUNCTIONS LOCALS DEPTH SPELLINGS INPUTS OUTPUT QUIET, or `explain` and NAME, or
+//!     `help`, or the fault's kind and exit status. INPUTS is FILE and its path if there is one file at most. OUTPUT and
+//!     QUIET are left out if the words name no output and are not quiet.
 //! wrong WORDS = the message for the first wrong word
 //! wmod WORDS < INPUT = the exit status, and the output
 //! detail wmod WORDS < INPUT = the line of detail without the file, or `none`
@@ -27,8 +28,9 @@ use std::test::Fail;
 use wm_bodies::blocks::OpenBlocks;
 use wm_bodies::named::earlier_fault;
 use wm_bodies::pieces::labels;
-use wm_command::arguments::{Action, Line, LineFault, Request};
+use wm_command::arguments::{Action, Inputs, Line, LineFault, Request};
 use wm_command::line::{request, wrong_word};
+use wm_command::path::path_by;
 use wm_command::run::run_line;
 use wm_command::status::{Status, exit_code};
 use wm_rules::Policy;
@@ -72,14 +74,32 @@ fn constant_of(profile: Profile) -> &'static str {
     }
 }
 
-fn tell_line(alloc: Global, line: &Line) -> Result<String, Fail> {
+fn tell_inputs(alloc: Global, inputs: &Inputs<'_>) -> Result<String, Fail> {
+    match inputs {
+        Inputs::One(file) => Ok(format!(in alloc; "{file:?} {:?}", path_by(*file))?),
+        Inputs::Several(files) => Ok(format!(in alloc; "several {files:?}")?),
+        Inputs::Listed(list, ending) => Ok(format!(in alloc; "from {list:?} {ending:?}")?),
+    }
+}
+
+/// Tells the output and whether the line is quiet. Empty if the line has neither.
+fn tell_rest(alloc: Global, line: &Line<'_>) -> Result<String, Fail> {
+    let quiet = if line.quiet { " quiet" } else { "" };
+    match line.output {
+        Some(output) => Ok(format!(in alloc; " to {output:?} {:?}{quiet}", path_by(line.output))?),
+        None => Ok(String::from_str(alloc, quiet)?),
+    }
+}
+
+fn tell_line(alloc: Global, line: &Line<'_>) -> Result<String, Fail> {
     let Line {
         action,
         profile,
         limit,
         policy,
         spellings,
-        file,
+        inputs,
+        ..
     } = line;
     let Policy {
         functions,
@@ -87,9 +107,10 @@ fn tell_line(alloc: Global, line: &Line) -> Result<String, Fail> {
         depth,
     } = policy;
     Ok(format!(in alloc;
-        "{action:?} {} {limit} {functions:?} {locals:?} {depth:?} {spellings:?} {file:?} {:?}",
+        "{action:?} {} {limit} {functions:?} {locals:?} {depth:?} {spellings:?} {}{}",
         constant_of(*profile),
-        line.path()
+        tell_inputs(alloc, inputs)?,
+        tell_rest(alloc, line)?
     )?)
 }
 
@@ -113,7 +134,7 @@ fn read(alloc: Global, command: &str) -> Result<String, Fail> {
 }
 
 /// Returns the line of a command. Fails if the command asks for something else.
-fn line_of(alloc: Global, command: &str) -> Result<Line, Fail> {
+fn line_of(alloc: Global, command: &str) -> Result<Line<'_>, Fail> {
     match request(alloc, words_of(alloc, command)?.as_slice())? {
         Request::Run(line) => Ok(line),
         Request::Explain(_) | Request::Help => Err(Fail::new("no line")),
@@ -174,7 +195,9 @@ fn is_same_under_more(alloc: Global, line: &Line, input: &[u8], told: &str) -> R
         limit: line.limit,
         policy: line.policy,
         spellings: line.spellings,
-        file: None,
+        inputs: Inputs::One(None),
+        output: None,
+        quiet: false,
     };
     Ok(tell(alloc, &more, input, 4096)?.as_str() == told)
 }

@@ -1,15 +1,11 @@
-use Rattle.std.proofs.Common.{◌∙◌, ap₂}
+use Rattle.std.proofs.Common.{◌∙◌, ap, ap₂}
 use Rattle.std.proofs.lemmas.Result.{IfOk-weaker}
 use Rattle.clap.specs.Words.{with_rule}
+use Rattle.wm_command.specs.Lines.{file_rules, module_rules, with_rules}
 use Rattle.wm_command.proofs.line.command.Goals as goal
 
 pub returns : goal.returns
 returns c =
-    let one = c.in_ok-arg.ensures.shape c.action_arg.ensures.local ∙ ap₂ with_rule c.bare_command.ensures c.action_arg.ensures.rule in
-    let two = c.in_ok-arg-2.ensures.shape c.option_arg.ensures.local ∙ ap₂ with_rule one c.option_arg.ensures.rule in
-    let three = c.in_ok-arg-3.ensures.shape c.option_arg-2.ensures.local ∙ ap₂ with_rule two c.option_arg-2.ensures.rule in
-    let four = c.in_ok-arg-4.ensures.shape c.option_arg-3.ensures.local ∙ ap₂ with_rule three c.option_arg-3.ensures.rule in
-    let five = c.in_ok-arg-5.ensures.shape c.option_arg-4.ensures.local ∙ ap₂ with_rule four c.option_arg-4.ensures.rule in
-    let six = c.in_ok-arg-6.ensures.shape c.option_arg-5.ensures.local ∙ ap₂ with_rule five c.option_arg-5.ensures.rule in
-    let seven = c.in_ok-arg-7.ensures.shape c.flag_arg.ensures.local ∙ ap₂ with_rule six c.flag_arg.ensures.rule in
-    IfOk-weaker c.arg-8.result _ _ (λ x h. h.shape c.file_arg.ensures.local ∙ ap₂ with_rule seven c.file_arg.ensures.rule) c.arg-8.ensures
+    let one = c.in_ok-command.ensures.shape c.action_arg.ensures.local ∙ ap₂ with_rule c.bare_command.ensures c.action_arg.ensures.rule in
+    let two = c.in_ok-command-2.ensures ∙ ap (λ a. with_rules a module_rules) one in
+    IfOk-weaker c.with_rules_of_files.result _ _ (λ x h. h ∙ ap (λ a. with_rules a file_rules) two) c.with_rules_of_files.ensures

@@ -1,0 +1,13 @@
+use Rattle.std.proofs.Common.{◌∙◌, ap₂, refl}
+use Rattle.std.proofs.lemmas.Result.{IfOk-weaker}
+use Rattle.clap.specs.Words.{with_rule}
+use Rattle.wm_command.proofs.line.with_rules_of_modules.Goals as goal
+
+pub returns : goal.returns
+returns c =
+    let one = c.in_ok-arg.ensures.shape c.option_arg.ensures.local ∙ ap₂ with_rule refl c.option_arg.ensures.rule in
+    let two = c.in_ok-arg-2.ensures.shape c.option_arg-2.ensures.local ∙ ap₂ with_rule one c.option_arg-2.ensures.rule in
+    let three = c.in_ok-arg-3.ensures.shape c.option_arg-3.ensures.local ∙ ap₂ with_rule two c.option_arg-3.ensures.rule in
+    let four = c.in_ok-arg-4.ensures.shape c.option_arg-4.ensures.local ∙ ap₂ with_rule three c.option_arg-4.ensures.rule in
+    let five = c.in_ok-arg-5.ensures.shape c.option_arg-5.ensures.local ∙ ap₂ with_rule four c.option_arg-5.ensures.rule in
+    IfOk-weaker c.arg-6.result _ _ (λ x h. h.shape c.flag_arg.ensures.local ∙ ap₂ with_rule five c.flag_arg.ensures.rule) c.arg-6.ensures
