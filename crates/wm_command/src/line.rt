@@ -170,7 +170,8 @@ const FROM: &str = "With `check` or `stats`: read the names of the files from FI
 
 const NULL: &str = "With `check` or `stats`: a zero byte ends each name of --from, not a line feed";
 
-const OUTPUT: &str = "With `canon`, `show` or `build`: write to FILE, and change it only if all is written";
+const OUTPUT: &str =
+    "With `canon`, `show` or `build`: write to FILE, and change it only if all is written";
 
 const QUIET: &str = "Print no line of detail for a refusal on standard error";
 
@@ -366,7 +367,10 @@ fn inputs_in<'a>(
         ⊎ (e ≡ Memory)) }
 {
     match (matches.get_str("from"), matches.get_raw("FILE")) {
-        (Some(list), None | Some([])) if is_for_many => Ok(Inputs::Listed(list, ending_in(matches))),
+        (Some(list), None | Some([])) if is_for_many => Ok(Inputs::Listed(
+            list,
+            ending_in(matches),
+        )),
         (Some(_), _) => Err(LineFault::Words),
         (None, _) if has_flag(matches, "null") => Err(LineFault::Words),
         (None, None | Some([])) => Ok(Inputs::One(None)),

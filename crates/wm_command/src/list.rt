@@ -119,7 +119,15 @@ pub fn execute_list<R: Input + Print + Eprint + AllocGlobal, O: Opens>(
 {
     let end = ending.byte();
     match path_by(Some(list)) {
-        None => follow_list_of(rt, files, line, "standard input", rt.reader(), end, Progress::new(true)),
+        None => follow_list_of(
+            rt,
+            files,
+            line,
+            "standard input",
+            rt.reader(),
+            end,
+            Progress::new(true),
+        ),
         Some(path) => match files.open(path) {
             Ok(file) => follow_list_of(rt, files, line, path, file, end, Progress::new(false)),
             Err(error) => end_of_list(rt, path, error),

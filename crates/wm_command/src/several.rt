@@ -202,7 +202,12 @@ fn execute_named<R: Input + Print + Eprint + AllocGlobal, O: Opens>(
 {
     match path_by(Some(name)) {
         None if is_input_read => {
-            complain_about(rt, &Status::Io, name_for_people(name), "it can be read once only");
+            complain_about(
+                rt,
+                &Status::Io,
+                name_for_people(name),
+                "it can be read once only",
+            );
             Ok(Status::Io)
         }
         None => follow_named(rt, line, name, rt.reader()),

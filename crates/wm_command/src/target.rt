@@ -46,7 +46,10 @@ struct Fresh<F> {
 
 /// Makes a new file beside the file to write. Its name is that of the file with `.wmod-tmp-` and a number behind it.
 /// Returns the status if there is none, and reports that on standard error.
-fn make_beside<R: Files + Eprint + AllocGlobal>(rt: &R, target: &str) -> Result<Fresh<R::File>, Status>
+fn make_beside<R: Files + Eprint + AllocGlobal>(
+    rt: &R,
+    target: &str,
+) -> Result<Fresh<R::File>, Status>
     ensures { IfErr result (λ status. (status ≡ Status.Io) ⊎ (status ≡ Status.Memory)) }
 {
     for n in 0..TRIES {
@@ -184,11 +187,21 @@ pub fn follow_to<R: Files + Print + Eprint + AllocGlobal, I: Read + Drop>(
         left text result) }
 {
     if target.is_empty() {
-        complain_of(rt, &Status::Io, target, io::Error::from(ErrorKind::InvalidInput));
+        complain_of(
+            rt,
+            &Status::Io,
+            target,
+            io::Error::from(ErrorKind::InvalidInput),
+        );
         return Status::Io;
     }
     if !may_be_replaced(rt, target) {
-        complain_about(rt, &Status::Io, target, "it is no regular file: write > FILE instead");
+        complain_about(
+            rt,
+            &Status::Io,
+            target,
+            "it is no regular file: write > FILE instead",
+        );
         return Status::Io;
     }
     match make_beside(rt, target) {

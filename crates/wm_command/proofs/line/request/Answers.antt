@@ -26,7 +26,7 @@ says_along word other same files l says = record {
   spellings = subst (λ o. IsSpellings o l.action l.spellings) (same (codes "old-words")) says.spellings;
   inputs = (
     subst (λ o. IsInputs o (other (codes "null")) files l.inputs) (same (codes "from"))
-    (subst (λ o. IsInputs (word (codes "from")) o files l.inputs) (same (codes "null")) says.inputs.0),
+        (subst (λ o. IsInputs (word (codes "from")) o files l.inputs) (same (codes "null")) says.inputs.0),
     says.inputs.1,
   );
   output = sym (same (codes "output")) ∙ says.output;
