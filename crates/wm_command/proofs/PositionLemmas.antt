@@ -1,10 +1,16 @@
--- Lemmas about the line of an offset: where it begins.
-use Rattle.std.proofs.Common.{◌≡◌, ◌<◌, ◌∙◌, ℕ, ◌+◌, ◌==◌, true, false, List, [], ◌∷◌, ◌++◌, ap, arith, cond, drop, get_or, length, refl, subst, sym, take, ◌≤◌, ◌-◌}
-use Rattle.std.specs.List.{list_any}
+-- Lemmas about the line of an offset: where it begins, and how the line feeds before it are counted.
+use Rattle.std.proofs.Common.{◌≡◌, ◌<◌, ◌∙◌, ℕ, ◌+◌, ◌==◌, Bool, false, List, [], ◌∷◌, ◌++◌, ap, arith, cond, drop, get_or, length, length-append, refl, subst, sym, take, ◌≤◌, ◌-◌}
+use Rattle.std.specs.List.{filter, list_any}
 use Rattle.std.proofs.Math.Seq.{take-length}
 use Rattle.std.proofs.lemmas.List.{drop_more, length-drop, take-append-drop}
+use Rattle.std.proofs.lemmas.List.Elements.{filter-append}
 use Rattle.std.proofs.lemmas.List.Folds.{list_any-append}
 use Rattle.wm_command.specs.Refused.{behind_last}
+
+-- The bytes that pass a test, before and after an offset, are all such bytes.
+pub count_parts : (test : ℕ → Bool) (n : ℕ) (bytes : List ℕ) → length (filter test (take n bytes)) + length (filter test (drop n bytes)) ≡ length (filter test bytes)
+count_parts test n bytes =
+    sym (length-append (filter test (take n bytes)) (filter test (drop n bytes))) ∙ ap length (sym (filter-append test (take n bytes) (drop n bytes))) ∙ ap (λ z. length (filter test z)) (take-append-drop n bytes)
 
 -- Without a c, the bytes after the last c are all bytes.
 pub behind_none : (c : ℕ) (xs : List ℕ) → list_any (λ y. y == c) xs ≡ false → behind_last c xs ≡ xs

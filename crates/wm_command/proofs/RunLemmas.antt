@@ -136,16 +136,15 @@ pub unwritten : (text : List ℕ) (wanted : Status) (old new : Option (List ℕ)
 unwritten text wanted old new true on e out = (out, refl)
 unwritten text wanted old new false on e out = absurd cc
 
+-- A flag is not both.
+pub not_both : (b : Bool) → b ≡ true → b ≡ false → ⊥
+not_both b is is_not = let both = sym is ∙ is_not in cc
+
 -- A run that refused its input wrote the whole line.
 pub appended : (text : List ℕ) (wanted : Status) (old new : Option (List ℕ)) (failed on : Bool) (result : Status) → IsAnswered text wanted old new failed on result → result ≡ status.Refused
     → Appends old new text
 appended text wanted old new false on result p is = p.0
 appended text wanted old new true on result p is = let no = sym is ∙ p.1 in cc
-
--- A run that writes the answer to an accepted input does not refuse it.
-pub not_refused : (text : List ℕ) (old new : Option (List ℕ)) (failed on : Bool) (result : Status) → IsAnswered text status.Done old new failed on result → result ≡ status.Refused → ⊥
-not_refused text old new false on result p is = let no = sym is ∙ p.2 in cc
-not_refused text old new true on result p is = let no = sym is ∙ p.1 in cc
 
 -- The bytes read are longer than the limit.
 pub longer : (limit : ℕ) (all left : Option (List ℕ)) (read : List ℕ) → Consumes all left read → limit < length read

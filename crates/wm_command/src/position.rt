@@ -17,18 +17,37 @@ pub(crate) fn is_first(byte: u8) -> bool
     byte < 0x80 || byte >= 0xC0
 }
 
-/// Returns the line after this front of a text. The loop counts and does nothing else, so that it is compiled to
-/// instructions on many bytes at once.
+/// The number of bytes that are counted at once. It is below 256, so that the count is a byte.
+const SPAN: usize = 128;
+
+/// Returns the number of line feeds in a few bytes. The loop counts in a byte and does nothing else, so that it is
+/// compiled to instructions on many bytes at once.
+fn feeds_in(span: &[u8]) -> u8
+    requires { length span.now ≤ 128 }
+    ensures count { result ≡ length (filter (λ c. c == 10) span.now) }
+    ensures few { result ≤ length span.now }
+{
+    let mut count = 0;
+    for byte in span {
+        if *byte == b'\n' {
+            count += 1;
+        }
+    }
+    count
+}
+
+/// Returns the line after this front of a text.
 fn line_after(before: &[u8]) -> usize
     ensures { result ≡ 1 + length (filter (λ c. c == 10) before.now) }
 {
     let mut line = 1;
-    for byte in before {
-        if *byte == b'\n' {
-            line += 1;
-        }
+    let mut rest = before;
+    while rest.len() > SPAN {
+        let (span, more) = rest.split_at(SPAN);
+        line += usize::from(feeds_in(span));
+        rest = more;
     }
-    line
+    line + usize::from(feeds_in(rest))
 }
 
 /// Returns the bytes after the last line feed, or all bytes if there is none. It reads no line but the last.

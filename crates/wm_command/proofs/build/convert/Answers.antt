@@ -1,5 +1,6 @@
-use Rattle.std.proofs.Common.{List, inl, inr, refl, subst, sym, ◌∙◌, ℕ}
+use Rattle.std.proofs.Common.{List, ◌≢◌, inl, inr, refl, subst, sym, ◌∙◌, ℕ}
 use Rattle.wm_syntax.specs.Values.{value_of}
+use Rattle.wm_tokens.specs.declared.faults.TextWhy.TheVariants as text_fault
 use Rattle.wm_command.proofs.RunLemmas.{appended}
 use Rattle.wm_command.specs.Answers.{IsAnswered}
 use Rattle.wm_command.specs.declared.status.Status.TheVariants as status
@@ -15,7 +16,7 @@ pub returns-in-Err-clause-answered : goal.returns-in-Err-clause-answered
 returns-in-Err-clause-answered g c = λ n.
     let out = c.refuse_text.ensures.answered n in
     let r = c.in-Err.refusal in
-    let why = λ e. out.0 (c.of.ensures.why ∙ e) in (
+    let why : r.why ≢ text_fault.Memory = λ e. out.0 (c.of-detail.ensures.why ∙ e) in (
       text_line c.args.text.now r.at r.why,
       status.Refused,
       inr (
@@ -24,7 +25,7 @@ returns-in-Err-clause-answered g c = λ n.
         refl,
       ),
       subst (λ (text : List ℕ). IsAnswered text status.Refused (g.W.Dest.contents c.args.w.now) (g.W.Dest.contents c.refuse_text.new.w) (g.W.Dest.has_failed c.refuse_text.new.w) (g.W.Dest.is_flushed c.refuse_text.new.w) c.refuse_text.result)
-          c.of.ensures.told out.1,
+          c.of-detail.ensures.told out.1,
     )
 
 pub returns-in-Err-clause-told : goal.returns-in-Err-clause-told

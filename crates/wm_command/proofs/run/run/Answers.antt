@@ -8,12 +8,12 @@ use Rattle.wm_write.specs.Layout.{layout}
 use Rattle.wm_command.specs.Outcome.{IsOutput, IsRightFor}
 use Rattle.wm_command.specs.Refused.{refusal_line}
 use Rattle.wm_command.specs.declared.status.Status.TheVariants as status
-use Rattle.wm_command.proofs.RunLemmas.{IsJudged, out_of_fault, out_of_loaded, writes_canon, writes_layout}
+use Rattle.wm_command.proofs.RunLemmas.{IsJudged, not_both, out_of_fault, out_of_loaded, writes_canon, writes_layout}
 use Rattle.wm_command.proofs.run.run.Goals as goal
 
 pub returns-in-Err-clause-answered : goal.returns-in-Err-clause-answered
 returns-in-Err-clause-answered g c = λ o m.
-    let told = c.answer_fault.ensures.answered (λ e. let failed = c.in-Err.ensures.failed.0 (ap Err e) in cc) m in
+    let told = c.answer_fault.ensures.answered (λ e. not_both _ (c.in-Err.ensures.failed.0 (ap Err e)) o) m in
     let r = told.0 in
     let out =
     out_of_fault (ValidInput c.args.profile c.args.limit c.args.policy) c.args.action (subst IsJudged (sym c.in-Check.is) tt) c.args.profile c.args.limit c.args.policy c.args.spellings
@@ -22,7 +22,7 @@ returns-in-Err-clause-answered g c = λ o m.
 
 pub returns-in-Err-validate_from-clause-answered : goal.returns-in-Err-validate_from-clause-answered
 returns-in-Err-validate_from-clause-answered g c = λ o m.
-    let told = c.answer_fault-in-Err-validate_from.ensures.answered (λ e. let failed = c.in-Err-validate_from.ensures.failed.0 (ap Err e) in cc) m in
+    let told = c.answer_fault-in-Err-validate_from.ensures.answered (λ e. not_both _ (c.in-Err-validate_from.ensures.failed.0 (ap Err e)) o) m in
     let r = told.0 in
     let out =
     out_of_fault (ValidInput c.args.profile c.args.limit c.args.policy) c.args.action (subst IsJudged (sym c.in-Stats.is) tt) c.args.profile c.args.limit c.args.policy c.args.spellings
@@ -31,7 +31,7 @@ returns-in-Err-validate_from-clause-answered g c = λ o m.
 
 pub returns-in-Err-load_from-clause-answered : goal.returns-in-Err-load_from-clause-answered
 returns-in-Err-load_from-clause-answered g c = λ o m.
-    let told = c.answer_fault-in-Err-load_from.ensures.answered (λ e. let failed = c.in-Err-load_from.ensures.failed.0 (ap Err e) in cc) m in
+    let told = c.answer_fault-in-Err-load_from.ensures.answered (λ e. not_both _ (c.in-Err-load_from.ensures.failed.0 (ap Err e)) o) m in
     let r = told.0 in
     let out =
     out_of_fault (LoadedInput c.args.profile c.args.limit c.args.policy) c.args.action (subst IsJudged (sym c.in-Canon.is) tt) c.args.profile c.args.limit c.args.policy c.args.spellings
@@ -40,7 +40,7 @@ returns-in-Err-load_from-clause-answered g c = λ o m.
 
 pub returns-in-Err-load_from-2-clause-answered : goal.returns-in-Err-load_from-2-clause-answered
 returns-in-Err-load_from-2-clause-answered g c = λ o m.
-    let told = c.answer_fault-in-Err-load_from-2.ensures.answered (λ e. let failed = c.in-Err-load_from-2.ensures.failed.0 (ap Err e) in cc) m in
+    let told = c.answer_fault-in-Err-load_from-2.ensures.answered (λ e. not_both _ (c.in-Err-load_from-2.ensures.failed.0 (ap Err e)) o) m in
     let r = told.0 in
     let out =
     out_of_fault (LoadedInput c.args.profile c.args.limit c.args.policy) c.args.action (subst IsJudged (sym c.in-Show.is) tt) c.args.profile c.args.limit c.args.policy c.args.spellings
