@@ -20,6 +20,16 @@ impl<T> Witness<T> {
         Witness { inner, error: None }
     }
 
+    /// Keeps an error, if there is one. Nothing is written otherwise: a reader may give each byte by itself.
+    #[inline(always)]
+    fn note(&mut self, error: Option<io::Error>)
+        ensures { self.new.inner ≡ self.old.inner }
+    {
+        if error.is_some() {
+            self.error = error;
+        }
+    }
+
     /// Returns the last error. It has no contract: none of std states which error a reader or a writer returns.
     /// Only tests cover it.
     pub fn error(&self) -> Option<io::Error> {
@@ -32,7 +42,7 @@ impl<R: Read> Read for Witness<R> {
 
     fn read(&mut self, buf: &mut [u8]) -> io::Result<usize> {
         let answer = self.inner.read(buf);
-        self.error = answer.err().or(self.error);
+        self.note(answer.err());
         answer
     }
 }
@@ -42,13 +52,13 @@ impl<W: Write> Write for Witness<W> {
 
     fn write(&mut self, buf: &[u8]) -> io::Result<usize> {
         let answer = self.inner.write(buf);
-        self.error = answer.err().or(self.error);
+        self.note(answer.err());
         answer
     }
 
     fn flush(&mut self) -> io::Result<()> {
         let answer = self.inner.flush();
-        self.error = answer.err().or(self.error);
+        self.note(answer.err());
         answer
     }
 }

@@ -36,10 +36,13 @@ pub struct Snapshot {
     pub(crate) at: u64,
 }
 
-/// Whether the machine is outside the members of a section.
+/// Whether the members of a section may begin after the next bytes: the machine is before a section or in its header.
 #[inline(always)]
-pub(crate) fn is_outside(machine: &Machine) -> bool {
-    !matches!(machine, Machine::Section { .. })
+pub(crate) fn is_before_members(machine: &Machine) -> bool {
+    matches!(
+        machine,
+        Machine::Between { .. } | Machine::Size { .. } | Machine::Count { .. }
+    )
 }
 
 /// Returns the index of the last member of the section if its first member begins; else returns `last_member`.
@@ -95,9 +98,9 @@ impl Snapshot {
         let mut machine = self.machine;
         let mut last_member = self.last_member;
         for byte in piece {
-            let outside = is_outside(&machine);
+            let is_before = is_before_members(&machine);
             let _ = step(self.profile, &mut machine, *byte);
-            if outside {
+            if is_before {
                 last_member = begun(&machine, last_member);
             }
         }

@@ -62,21 +62,35 @@ fn is_same(first: Option<Refused>, second: Option<Refused>) -> bool {
     }
 }
 
-/// Whether a validator and a loader refuse these pieces so.
-fn is_refused(alloc: Global, row: &Row, pieces: &[&[u8]], wanted: Option<Refused>) -> bool {
-    is_same(by_validator(alloc, row, pieces), wanted)
-        && is_same(by_loader(alloc, row, pieces), wanted)
+/// Whether memory was refused.
+fn is_memory(refused: Option<Refused>) -> bool {
+    matches!(refused, Some(refused) if refused.refusal.why == Why::Memory)
+}
+
+/// Whether a validator and a loader refuse these pieces so. Fails if memory is refused.
+fn is_refused(
+    alloc: Global,
+    row: &Row,
+    pieces: &[&[u8]],
+    wanted: Option<Refused>,
+) -> io::Result<bool> {
+    let judged = by_validator(alloc, row, pieces);
+    let loaded = by_loader(alloc, row, pieces);
+    if is_memory(judged) || is_memory(loaded) {
+        return Err(out_of_memory());
+    }
+    Ok(is_same(judged, wanted) && is_same(loaded, wanted))
 }
 
 /// Whether the refusal is the same in pieces of one byte, and in two pieces, wherever the binary is cut.
 fn is_same_in_pieces(alloc: Global, row: &Row, wanted: Option<Refused>) -> io::Result<bool> {
     let pieces = row.input.chunks(1).collect::<Vec<&[u8]>>(alloc)?;
-    if !is_refused(alloc, row, &pieces, wanted) {
+    if !is_refused(alloc, row, &pieces, wanted)? {
         return Ok(false);
     }
     for place in 0..row.input.len() {
         let (front, back) = row.input.split_at(place);
-        if !is_refused(alloc, row, &[front, b"", back], wanted) {
+        if !is_refused(alloc, row, &[front, b"", back], wanted)? {
             return Ok(false);
         }
     }
@@ -109,12 +123,10 @@ fn line_of(alloc: Global, refused: &Refused) -> io::Result<String> {
 /// has the right answers.
 pub fn answer_place(alloc: Global, row: &Row) -> io::Result<String> {
     let whole = by_source(alloc, row, &row.input);
-    if let Some(refused) = whole
-        && refused.refusal.why == Why::Memory
-    {
+    if is_memory(whole) {
         return Err(out_of_memory());
     }
-    if !is_refused(alloc, row, &[row.input.as_slice()], whole) {
+    if !is_refused(alloc, row, &[row.input.as_slice()], whole)? {
         return say(alloc, "differs from a source");
     }
     if !is_same_in_pieces(alloc, row, whole)? {
