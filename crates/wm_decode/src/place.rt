@@ -36,12 +36,13 @@ pub struct Snapshot {
     pub(crate) at: u64,
 }
 
-/// Whether the members of a section may begin after the next bytes: the machine is before a section or in its header.
+/// Whether the members of a section may begin in the next bytes that are taken at once: the machine is in no members and
+/// in no custom section.
 #[inline(always)]
 pub(crate) fn is_before_members(machine: &Machine) -> bool {
-    matches!(
+    !matches!(
         machine,
-        Machine::Between { .. } | Machine::Size { .. } | Machine::Count { .. }
+        Machine::Section { .. } | Machine::Custom { .. } | Machine::CustomSize { .. }
     )
 }
 
