@@ -1,6 +1,9 @@
 //! Runs an action on each of several files, and writes one line for each.
 
 ghost use Rattle.std.specs.Prelude.{◌≡◌, ◌≢◌, ◌↔◌, ◌||◌, ℕ, List, Option, Some, None, IfOk, IfSome, false, length, map, true};
+ghost use Rattle.std.specs.Char.{is_control};
+ghost use Rattle.std.specs.List.{list_any};
+ghost use Rattle.std.specs.Str.{chars};
 ghost use Rattle.std.specs.String.{string_bytes};
 ghost use Rattle.wm_command.specs.Answers.{IsAnswered};
 ghost use Rattle.wm_command.specs.Outcome.{IsOutput, IsRightFor};
@@ -62,11 +65,22 @@ pub fn greater_of(one: Status, other: Status) -> Status
     }
 }
 
+/// Whether the text has a control character.
+fn has_control(text: &str) -> bool
+    ensures { result ≡ list_any is_control (chars text.now) }
+{
+    let mut found = false;
+    for c in text.chars() {
+        found = found || c.is_control();
+    }
+    found
+}
+
 /// Returns the name as a line shows it: control characters are escaped. No contract states how.
 fn shown(alloc: Global, name: &str) -> Result<String, AllocError>
     ensures { IfOk result (λ text. IsShown name.now (string_bytes text)) }
 {
-    if name.contains(char::is_control) {
+    if has_control(name) {
         Escaped(name).to_string(alloc)
     } else {
         String::from_str(alloc, name)

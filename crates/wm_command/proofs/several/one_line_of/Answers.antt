@@ -1,6 +1,5 @@
 use Rattle.std.proofs.Common.{◌≡◌, ◌∙◌, ◌++◌, ◌∷◌, [], ap, ap₂, length, map, sym, take, arith}
-use Rattle.std.proofs.Math.Seq.{take-length}
-use Rattle.std.proofs.lemmas.List.{map_more}
+use Rattle.std.proofs.lemmas.List.{map_more, take_all}
 use Rattle.wm_command.specs.Several.{spaced}
 use Rattle.wm_command.proofs.several.one_line_of.Goals as goal
 
@@ -11,4 +10,7 @@ loop-byte-preserved c =
     c.in_ok-push.ensures.items ∙ ap₂ (λ x y. x ++ y ∷ []) c.loop-byte.invariant c.spaced_of.ensures ∙ sym (map_more spaced front i 0 c.loop-byte-test.true)
 
 pub returns : goal.returns
-returns c = ?
+returns c =
+    let front = take c.saturating_sub.result c.args.text.now in
+    let all = take_all c.loop-byte.byte-index front (omega (arith, c.loop-byte-test.false)) in
+    c.in_ok-push-2.ensures.items ∙ ap (λ x. x ++ 10 ∷ []) (c.loop-byte.invariant ∙ ap (map spaced) all ∙ ap (λ n. map spaced (take n c.args.text.now)) c.saturating_sub.ensures)

@@ -2,10 +2,22 @@ use Rattle.std.proofs.Common.{rules, ◌≡◌, ◌≢◌, ◌↔◌, ◌||◌, 
 use Rattle.std.specs.String.{string_bytes}
 use Rattle.wm_command.specs.Answers.{IsAnswered}
 use Rattle.wm_command.specs.Outcome.{IsOutput, IsRightFor}
-use Rattle.wm_command.specs.Several.{IsOfEach, IsRightAt, IsShown, greater, line_for, one_line}
+use Rattle.wm_command.specs.Several.{IsOfEach, IsRightAt, IsShown, greater, line_for, one_line, spaced}
 use Rattle.wm_command.specs.declared.status.Status.{Status}
-use Rattle.wm_command.proofs.several.shown.Goals as goal
+use Rattle.wm_command.proofs.several.execute_each.Goals as goal
 
--- src/several.rt:65:1
-pub returns-then-contains : goal.returns-then-contains
-returns-then-contains c = ?
+-- src/several.rt:242:5
+pub loop-name-init : goal.loop-name-init
+loop-name-init g c = ?
+
+-- src/several.rt:245:34
+pub returns-in-Err : goal.returns-in-Err
+returns-in-Err g c = ?
+
+-- src/several.rt:242:5
+pub loop-name-preserved : goal.loop-name-preserved
+loop-name-preserved g c = ?
+
+-- src/several.rt:232:1
+pub returns : goal.returns
+returns g c = ?
