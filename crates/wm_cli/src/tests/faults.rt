@@ -54,13 +54,13 @@ impl Call {
 pub struct Task<'a> {
     pub alloc: Global,
     pub call: Call,
-    pub line: &'a Line,
+    pub line: &'a Line<'a>,
     pub input: &'a [u8],
 }
 
 impl<'a> Task<'a> {
     /// Returns the task of `run` with the action of this line.
-    pub fn of_line(alloc: Global, line: &'a Line, input: &'a [u8]) -> Self {
+    pub fn of_line(alloc: Global, line: &'a Line<'a>, input: &'a [u8]) -> Self {
         Task {
             alloc,
             call: Call::Run(line.action),

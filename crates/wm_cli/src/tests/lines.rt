@@ -72,14 +72,14 @@ read wmod check --max-locals = parser 2
 read wmod check --max-open=1 --max-open=2 = parser 2
 read wmod build --old-words --old-words = parser 2
 read wmod build --old-words=true = parser 2
-read wmod check a b = Check One 4294967295 None None None Standard several ["a", "b"]
-read wmod stats a --limit 7 - a = Stats One 7 None None None Standard several ["a", "-", "a"]
-read wmod check --from a = Check One 4294967295 None None None Standard from "a" Line
-read wmod stats -0 --from=- = Stats One 4294967295 None None None Standard from "-" Zero
-read wmod check --quiet --null --from a = Check One 4294967295 None None None Standard from "a" Zero quiet
-read wmod canon a -o b = Canon One 4294967295 None None None Standard Some("a") Some("a") to "b" Some("b")
-read wmod build --output=- -q = Build One 4294967295 None None None Standard None None to "-" None quiet
-read wmod show -ob = Show One 4294967295 None None None Standard None None to "b" Some("b")
+read wmod check a b = Check ONE 4294967295 None None None Standard several ["a", "b"]
+read wmod stats a --limit 7 - a = Stats ONE 7 None None None Standard several ["a", "-", "a"]
+read wmod check --from a = Check ONE 4294967295 None None None Standard from "a" Line
+read wmod stats -0 --from=- = Stats ONE 4294967295 None None None Standard from "-" Zero
+read wmod check --quiet --null --from a = Check ONE 4294967295 None None None Standard from "a" Zero quiet
+read wmod canon a -o b = Canon ONE 4294967295 None None None Standard Some("a") Some("a") to "b" Some("b")
+read wmod build --output=- -q = Build ONE 4294967295 None None None Standard None None to "-" None quiet
+read wmod show -ob = Show ONE 4294967295 None None None Standard None None to "b" Some("b")
 read wmod canon a b = words 2
 read wmod show --from a = words 2
 read wmod check --from a b = words 2

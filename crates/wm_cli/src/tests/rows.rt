@@ -133,9 +133,9 @@ fn read(alloc: Global, command: &str) -> Result<String, Fail> {
     }
 }
 
-/// Returns the line of a command. Fails if the command asks for something else.
-fn line_of(alloc: Global, command: &str) -> Result<Line<'_>, Fail> {
-    match request(alloc, words_of(alloc, command)?.as_slice())? {
+/// Returns the line of a command's words. Fails if they ask for something else.
+fn line_of<'a>(alloc: Global, words: &'a [&'a str]) -> Result<Line<'a>, Fail> {
+    match request(alloc, words)? {
         Request::Run(line) => Ok(line),
         Request::Explain(_) | Request::Help => Err(Fail::new("no line")),
     }
@@ -204,7 +204,8 @@ fn is_same_under_more(alloc: Global, line: &Line, input: &[u8], told: &str) -> R
 
 /// Returns the exit status and the output of a command for an input, or the fault of the command.
 pub fn obey(alloc: Global, command: &str, input: &[u8]) -> Result<String, Fail> {
-    let line = match request(alloc, words_of(alloc, command)?.as_slice()) {
+    let words = words_of(alloc, command)?;
+    let line = match request(alloc, words.as_slice()) {
         Ok(Request::Run(line)) => line,
         Ok(Request::Explain(_) | Request::Help) => return Err(Fail::new("no line")),
         Err(fault) => return tell_fault(alloc, &fault),
@@ -218,7 +219,8 @@ pub fn obey(alloc: Global, command: &str, input: &[u8]) -> Result<String, Fail> 
 
 /// Returns the output of a command for an input. Fails if its status is not `Done`.
 fn written(alloc: Global, command: &str, input: &[u8]) -> Result<Vec<u8>, Fail> {
-    let line = line_of(alloc, command)?;
+    let words = words_of(alloc, command)?;
+    let line = line_of(alloc, &words)?;
     let whole = Mode::by(usize::MAX);
     let (answer, _, writer) = follow(&Task::of_line(alloc, &line, input), whole, whole);
     if answer.status == Status::Done {
@@ -267,7 +269,8 @@ fn cut_row(alloc: Global, end: End, row: &str) -> Result<String, Fail> {
         at: passed.parse::<u32>()?.saturating_add(1),
     };
     let (command, input) = parts_of(alloc, call)?;
-    let line = line_of(alloc, command)?;
+    let words = words_of(alloc, command)?;
+    let line = line_of(alloc, &words)?;
     let (answer, _, writer) = follow_failing(&Task::of_line(alloc, &line, &input), end, failing);
     Ok(format!(in alloc;
         "{} \"{}\"",
@@ -279,7 +282,8 @@ fn cut_row(alloc: Global, end: End, row: &str) -> Result<String, Fail> {
 /// Returns the detail of a call that is refused, or `none` if it is not.
 fn detail_row(alloc: Global, call: &str) -> Result<String, Fail> {
     let (command, input) = parts_of(alloc, call)?;
-    let line = line_of(alloc, command)?;
+    let words = words_of(alloc, command)?;
+    let line = line_of(alloc, &words)?;
     let mut source = Input::new(input.as_slice());
     let mut dest = Output::new(Vec::new(alloc));
     match run_line(alloc, &line, &mut source, &mut dest).detail {
@@ -343,7 +347,8 @@ pub fn play(rt: &impl Abort, alloc: Global, script: &str) -> Result<(), Fail> {
 /// Whether each function that takes a row's input ends as it must if its reader or its writer fails.
 fn is_row_told(alloc: Global, row: &str, faults: &mut Faults) -> Result<bool, Fail> {
     let (command, input) = parts_of(alloc, row)?;
-    let line = line_of(alloc, command)?;
+    let words = words_of(alloc, command)?;
+    let line = line_of(alloc, &words)?;
     Ok(are_faults_told(alloc, &line, &input, faults))
 }
 
