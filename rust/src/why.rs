@@ -247,13 +247,14 @@ mod tests {
     #[test]
     fn the_library_has_the_same_sentences() {
         for number in NUMBERS {
-            match Why::of(number) {
-                Why::Other(name) => assert_eq!((name.as_str(), meaning(number).as_str()), ("", "")),
-                why => assert_eq!(why.explain(), meaning(number), "{number}"),
-            }
+            let wanted = match Why::of(number) {
+                // the second number of `Memory`, for which no call returns this variant
+                Why::Other(name) if name.as_str() == "Memory" => Why::Memory.explain(),
+                Why::Other(_) => "",
+                why => why.explain(),
+            };
+            assert_eq!(wanted, meaning(number), "{number}");
         }
-        // the second number of `Memory`
-        assert_eq!(Why::Memory.explain(), meaning(120));
     }
 
     #[test]
