@@ -89,9 +89,9 @@ within none none 0 judge type, results 0, func 0, body, op i64.const, op if = Ty
 // The offsets of refusals. At the same byte, the policy comes before `BodyEnd` and `SectionEnd`.
 const INPUTS: &str = "\
 within 0 none none validate 1000 by 1 ADD; within 0 none none validate 1000 ADD = Err(Refusal { at: 21, why: ManyFunctions })
-within 0 none none from ADD = Err(Refused(Refusal { at: 21, why: ManyFunctions }))
+within 0 none none from ADD = Err(Refused(Refusal { at: 21, why: ManyFunctions }, Found { byte: Some(0), place: Some(Place { section: 3, item: Some(0), awaits: Number }), imported: Imported { functions: 0, globals: 0 } }))
 within 0 none none load ADD = Refusal { at: 21, why: ManyFunctions }
-within 0 none none load_from ADD = Refused(Refusal { at: 21, why: ManyFunctions })
+within 0 none none load_from ADD = Refused(Refusal { at: 21, why: ManyFunctions }, Found { byte: Some(0), place: Some(Place { section: 3, item: Some(0), awaits: Number }), imported: Imported { functions: 0, globals: 0 } })
 within 1 0 0 validate 1000 ADD; within 1 0 0 validate 1000 by 1 ADD \
 = Ok(Summary { functions: 1, moves: 8, operands: 2, controls: 1, probes: 0 })
 within 3 2 1 validate 1000 EVERY = Ok(Summary { functions: 2, moves: 8, operands: 1, controls: 2, probes: 0 })
