@@ -199,9 +199,10 @@ def fed(program, words, given, piece):
     counted = re.search(rb"Collected : (\d+)", told)
     if not counted:
         sys.exit(told.decode())
-    # Lines of valgrind itself begin with ==NUMBER==. Older programs write no line and column.
+    # Lines of valgrind itself begin with ==NUMBER==. Older programs write no line and column, and no line of detail.
     answer = re.sub(rb"^(text refused at \d+) \(\d+:\d+\)", rb"\1", written)
-    return int(counted[1]), (ran.returncode, answer, re.sub(rb"(?m)^==\d+==.*\n", b"", told))
+    messages = b"" if ran.returncode == 1 else re.sub(rb"(?m)^==\d+==.*\n", b"", told)
+    return int(counted[1]), (ran.returncode, answer, messages)
 
 
 def send(here, given, piece):
