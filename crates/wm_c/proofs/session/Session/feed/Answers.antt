@@ -1,8 +1,6 @@
-use Rattle.std.proofs.Common.{sym, subst}
-use Rattle.wm_rules.specs.inner.Validators.{refusal_in}
+use Rattle.std.proofs.Common.{subst}
 use Rattle.wm_c.specs.declared.session.State.{State}
 use Rattle.wm_c.specs.Sessions.{StateRefused, StateTaken}
-use Rattle.wm_c.proofs.Sections.{none_refused}
 use Rattle.wm_c.proofs.session.Session.feed.Goals as goal
 
 pub returns-in-Reading-clause-refused : goal.returns-in-Reading-clause-refused
@@ -11,8 +9,3 @@ returns-in-Reading-clause-refused c is_one p limit q before taken more =
 
 pub returns-in-Reading-clause-stays : goal.returns-in-Reading-clause-stays
 returns-in-Reading-clause-stays c r refused = c.fed.ensures.stays r (subst (λ (s : State). StateRefused s r) c.in-Reading.is refused)
-
-pub returns-in-Reading-clause-section : goal.returns-in-Reading-clause-section
-returns-in-Reading-clause-section c is_one unrefused p limit q before taken r refused =
-    let none = none_refused (refusal_in c.in-Reading.validator) (λ x e. unrefused x (subst (λ (s : State). StateRefused s x) (sym c.in-Reading.is) e)) in
-    (r, refused, c.fed.ensures.section is_one none p limit q before (subst (λ (s : State). StateTaken s p limit q before) c.in-Reading.is taken) r refused)
