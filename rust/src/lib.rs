@@ -46,7 +46,7 @@ mod why;
 
 pub use error::{Error, ErrorKind};
 pub use options::{Options, Profile};
-pub use validator::{Place, Summary, Validator};
+pub use validator::{Summary, Validator};
 pub use why::{Name, Why};
 
 /// Validates a module in memory, with the default [`Options`].

@@ -10,7 +10,6 @@ pub(crate) const NO_ROOM: u32 = 5;
 pub(crate) const LIMIT_DEFAULT: u64 = 0xFFFF_FFFF;
 pub(crate) const LIMIT_MOST: u64 = 1 << 62;
 pub(crate) const NO_LIMIT: u64 = u64::MAX;
-pub(crate) const NONE: u32 = u32::MAX;
 #[cfg(test)]
 pub(crate) const EXPLAIN_ROOM: usize = 1024;
 
@@ -49,13 +48,6 @@ pub(crate) struct Output {
 }
 
 #[repr(C)]
-#[derive(Default)]
-pub(crate) struct Place {
-    pub(crate) section: u32,
-    pub(crate) item: u32,
-}
-
-#[repr(C)]
 pub(crate) struct Validator {
     pub(crate) state: *mut c_void,
 }
@@ -78,7 +70,6 @@ extern "C" {
     pub(crate) fn wmod_begin_with(v: *mut Validator, options: *const Options) -> u32;
     pub(crate) fn wmod_feed(v: *mut Validator, piece: *const u8, length: usize) -> u32;
     pub(crate) fn wmod_finish(v: *mut Validator, answer: *mut Answer) -> u32;
-    pub(crate) fn wmod_place(v: *mut Validator, place: *mut Place) -> u32;
     pub(crate) fn wmod_end(v: *mut Validator);
     pub(crate) fn wmod_canon(
         bytes: *const u8,
@@ -144,14 +135,13 @@ mod tests {
             laid!("wmod_options", options, size profile max_bytes functions locals depth old_words),
             laid!("wmod_output", Output::default(), status why at length),
             laid!("wmod_validator", validator, state),
-            laid!("struct wmod_place", Place::default(), section item),
             format!(
                 "WMOD_VALID {VALID}\nWMOD_REFUSED {REFUSED}\nWMOD_MISUSE 2\nWMOD_MEMORY {MEMORY}\n"
             ),
             format!("WMOD_NO_ROOM {NO_ROOM}\nWMOD_PROFILE_1 1\nWMOD_PROFILE_2 2\n"),
             "WMOD_PROFILE_3 3\nWMOD_PROFILE_4 4\n".into(),
             format!("WMOD_LIMIT_DEFAULT {LIMIT_DEFAULT}\nWMOD_LIMIT_MOST {LIMIT_MOST}\n"),
-            format!("WMOD_NO_LIMIT {NO_LIMIT}\nWMOD_NONE {NONE}\n"),
+            format!("WMOD_NO_LIMIT {NO_LIMIT}\n"),
             format!("WMOD_EXPLAIN_ROOM {EXPLAIN_ROOM}\n"),
         ]
         .concat();

@@ -19,25 +19,6 @@ pub struct Summary {
     pub probes: u64,
 }
 
-/// A place in a module, from [`Validator::place`].
-#[derive(Clone, Copy, PartialEq, Eq, Hash, Debug)]
-#[non_exhaustive]
-pub struct Place {
-    /// The id of a section: 0 for a custom section, else 1 to 11.
-    pub section: u8,
-    /// How many members of this section come before the place, such as types or function bodies. `None` in the size and
-    /// the count of a section, and in a custom section.
-    pub item: Option<u32>,
-}
-
-impl Place {
-    fn of(place: &sys::Place) -> Option<Place> {
-        let section = u8::try_from(place.section).ok()?;
-        let item = (place.item != sys::NONE).then_some(place.item);
-        Some(Place { section, item })
-    }
-}
-
 /// Makes a result of the answer that a call fills in.
 pub(crate) fn judged(call: impl FnOnce(&mut sys::Answer)) -> Result<Summary, Error> {
     let mut answer = sys::Answer::default();
@@ -135,25 +116,6 @@ impl Validator {
             // only `wmod_finish` says which refusal it was; it may be called again
             _ => self.ended().map(drop),
         }
-    }
-
-    /// Returns the place of the byte that was refused, or of the next byte if none was. `None` in the header of the
-    /// module and before a section. [`Error::place`] has the offset of the byte.
-    ///
-    /// ```
-    /// let mut validator = wmod::Validator::new()?;
-    /// // a type section of two types, and no function type begins with 0x40
-    /// let error = validator.feed(b"\0asm\x01\0\0\0\x01\x07\x02\x60\0\0\x40").unwrap_err();
-    /// assert_eq!((error.why(), error.place()), (wmod::Why::BadByte, Some(15)));
-    /// let place = validator.place().unwrap();
-    /// assert_eq!((place.section, place.item), (1, Some(1)));
-    /// # Ok::<(), wmod::Error>(())
-    /// ```
-    pub fn place(&mut self) -> Option<Place> {
-        let mut place = sys::Place::default();
-        // SAFETY: the handle was begun; the call writes both fields.
-        unsafe { sys::wmod_place(&mut self.handle, &mut place) };
-        Place::of(&place)
     }
 
     /// Ends the input and returns its figures.

@@ -81,26 +81,6 @@ fn a_refusal_stays() {
 }
 
 #[test]
-fn a_place_stays() {
-    let mut validator = Validator::new().unwrap();
-    assert_eq!(validator.place(), None);
-    validator.feed(&ADD[..8]).unwrap();
-    assert_eq!(validator.place(), None);
-    validator.feed(&ADD[8..9]).unwrap();
-    let place = validator.place().unwrap();
-    assert_eq!((place.section, place.item), (1, None));
-    validator.feed(&ADD[9..26]).unwrap();
-    let place = validator.place().unwrap();
-    assert_eq!((place.section, place.item), (10, Some(0)));
-    // no instruction begins with the byte 06
-    assert_eq!(validator.feed(b"\x06").unwrap_err().why(), Why::BadOpcode);
-    assert_eq!(validator.place(), Some(place));
-    validator.feed(b"\0\0\0").unwrap_err();
-    assert_eq!(validator.place(), Some(place));
-    assert_eq!(validator.finish().unwrap_err().place(), Some(27));
-}
-
-#[test]
 fn one_that_is_let_go_gives_back_what_it_holds() {
     for n in 0..ADD.len() {
         Validator::new().unwrap().feed(&ADD[..n]).unwrap();
@@ -125,6 +105,5 @@ fn an_error_is_sent() {
     sent::<Why>();
     sent::<wmod::Name>();
     sent::<Options>();
-    sent::<wmod::Place>();
     sent::<wmod::Summary>();
 }

@@ -250,22 +250,6 @@ uint32_t wmod_feed(wmod_validator *v, const uint8_t *piece, size_t length);
  * A second call gives it again. WMOD_MISUSE: the handle is empty. */
 uint32_t wmod_finish(wmod_validator *v, wmod_answer *answer);
 
-/* The place of a byte in a module. */
-struct wmod_place {
-  uint32_t section; /* the id of its section: 0 for a custom section, else 1 to 11. WMOD_NONE in the header of the
-                       module and before a section */
-  uint32_t item;    /* how many members of the section come before it, such as types or function bodies. WMOD_NONE in
-                       the size and the count of a section, in a custom section, and outside of sections */
-};
-#define WMOD_NONE ((uint32_t)-1)
-
-/* Gives the place of the byte that was refused. If none was, it is the place of the next byte or, after wmod_finish, of
- * the end of the input. A call before wmod_finish gives the same as one after it. The handle stays as it is. Returns
- * WMOD_VALID, or WMOD_MISUSE if the handle is empty: both fields are then WMOD_NONE.
- *
- * Proved: the section. Tested: the item. */
-uint32_t wmod_place(wmod_validator *v, struct wmod_place *place);
-
 /* Frees what the handle holds, at any moment, and leaves it empty. Does nothing if the handle is empty. */
 void wmod_end(wmod_validator *v);
 

@@ -5,7 +5,7 @@ use Rattle.wm_machine.specs.declared.refusal.Refusal.{Refusal}
 use Rattle.wm_rules.specs.declared.policy.Policy.{Policy}
 use Rattle.wm_c.specs.declared.answer.Answer.{Answer}
 use Rattle.wm_c.specs.declared.session.Session.{Session}
-use Rattle.wm_c.specs.Sessions.{HasEnded, HasTaken, IsIn, IsReading, IsOver, StateRanOut, StateRefused}
+use Rattle.wm_c.specs.Sessions.{HasEnded, HasTaken, IsReading, IsOver, StateRanOut, StateRefused}
 use base.Fml.{Fml, feq}
 use denote.RawPtr.{Ptr, null_ptr}
 use denote.RattleType.{RattleType}
@@ -51,8 +51,3 @@ RanOut (Some s) = StateRanOut s.state
 abbrev pub HoldsRefusal : Option Session → Refusal → Type 0
 HoldsRefusal None r = ⊥
 HoldsRefusal (Some s) r = StateRefused s.state r
-
--- The handle holds a session that was refused, or has its answer, at a byte in the section with this number.
-abbrev pub HoldsSection : Option Session → ℕ → Type 0
-HoldsSection None n = ⊥
-HoldsSection (Some s) n = IsIn s n

@@ -1,18 +1,15 @@
--- The state of a session: the bytes that it has taken, its refusal, its answer and its place.
+-- The state of a session: the bytes that it has taken, its refusal and its answer.
 use Rattle.std.specs.Prelude.{◌≡◌, ℕ, List, IfSome, Some}
 use Rattle.wm_syntax.specs.declared.profile.Profile.{Profile}
 use Rattle.wm_syntax.specs.declared.why.Why.TheVariants.{Memory}
 use Rattle.wm_machine.specs.declared.refusal.Refusal.{Refusal}
 use Rattle.wm_rules.specs.declared.policy.Policy.{Policy}
-use Rattle.wm_rules.specs.inner.Finding.{found_by}
 use Rattle.wm_rules.specs.inner.Validators.{HasRead, refusal_in}
 use Rattle.wm_c.specs.declared.answer.Answer.{Answer}
 use Rattle.wm_c.specs.declared.session.Session.{Session}
 use Rattle.wm_c.specs.declared.session.State.{State}
 use Rattle.wm_c.specs.declared.session.State.TheVariants.{Reading, Ended}
 use Rattle.wm_c.specs.Answers.{IsAnswerOf}
-use Rattle.wm_c.specs.Places.{in_fields}
-use Rattle.wm_c.specs.declared.place.Place.{Place}
 
 -- The state fits these bytes: its validator has read them, or its answer is a right answer to them.
 abbrev pub StateTaken : State → Profile → ℕ → Policy → List ℕ → Type 0
@@ -46,12 +43,3 @@ StateRanOut (Ended a) = ⊥
 abbrev pub StateRefused : State → Refusal → Type 0
 StateRefused (Reading v) r = refusal_in v ≡ Some r
 StateRefused (Ended a) r = ⊥
-
--- The session was refused, or has its answer, at a byte in the section with this number.
-abbrev pub StateIsIn : State → Place → ℕ → Type 0
-StateIsIn (Reading v) place n =
-    (r : Refusal) × (refusal_in v ≡ Some r) × ((in_fields (found_by v).place).section ≡ n)
-StateIsIn (Ended a) place n = place.section ≡ n
-
-abbrev pub IsIn : Session → ℕ → Type 0
-IsIn s n = StateIsIn s.state s.place n

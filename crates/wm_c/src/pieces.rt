@@ -1,12 +1,10 @@
 //! The calls for an input in pieces.
 
-ghost use Rattle.std.specs.Prelude.{◌≡◌, ◌≢◌, ◌-◌, ◌++◌, ◌↔◌, ◌⊎◌, ℕ, List, [], Err, None, take};
+ghost use Rattle.std.specs.Prelude.{◌≡◌, ◌≢◌, ◌++◌, ◌↔◌, ◌⊎◌, ℕ, List, [], Err, None};
 ghost use Rattle.wm_c.specs.Answers.{IsAnswerOf, in_numbers, misuse};
 ghost use Rattle.wm_c.specs.Codes.{status_code};
-ghost use Rattle.wm_c.specs.Handles.{Holds, HoldsAnswer, HoldsRefusal, HoldsSection, RanOut};
-ghost use Rattle.wm_c.specs.Handles.{TakesNothing, TakesPieces};
+ghost use Rattle.wm_c.specs.Handles.{Holds, HoldsAnswer, HoldsRefusal, RanOut, TakesNothing, TakesPieces};
 ghost use Rattle.wm_c.specs.Options.{Asking, Asks, plain_options};
-ghost use Rattle.wm_c.specs.Places.{nowhere, section_after};
 ghost use Rattle.wm_c.specs.declared.answer.Answer.{Answer as AnAnswer};
 ghost use Rattle.wm_machine.specs.declared.refusal.Refusal.{Refusal as ARefusal};
 ghost use Rattle.wm_rules.specs.Validation.{Accepted};
@@ -17,7 +15,6 @@ use crate::answer::Answer;
 use crate::handle::Handle;
 use crate::loose::Loose;
 use crate::options::Options;
-use crate::place::Place;
 use crate::session::Session;
 use std::alloc::Global;
 use std::mem;
@@ -100,12 +97,6 @@ pub extern "C" fn wmod_feed(alloc: Global, v: &mut Handle, piece: &[u8]) -> u32
         × HoldsRefusal v.new.held r }
     ensures stays { (r : ARefusal) → HoldsRefusal v.old.held r → (result ≡ status_code r.why)
         × HoldsRefusal v.new.held r }
-    // The handle keeps the section of the byte at the offset of a first refusal.
-    ensures section { result ≡ 1 → ((r : ARefusal) → HoldsRefusal v.old.held r → ⊥)
-        → (p : AProfile) (limit : ℕ) (q : APolicy) (before : List ℕ) → Holds v.old.held p limit q before
-        → (r : ARefusal) → HoldsRefusal v.new.held r
-        → HoldsSection v.new.held (section_after p (take (r.at - 1) (before ++ piece.now))) }
-    ensures still { (n : ℕ) → HoldsSection v.old.held n → HoldsSection v.new.held n }
 {
     match emptied(v).take(alloc) {
         None => 2,
@@ -131,41 +122,9 @@ pub extern "C" fn wmod_finish(alloc: Global, v: &mut Handle, answer: &mut Answer
     ensures ended { v.old.held ≢ None → HoldsAnswer v.new.held answer.new }
     ensures none { v.old.held ≡ None → (answer.new ≡ misuse) × (v.new.held ≡ None) }
     ensures status { result ≡ answer.new.status }
-    // The handle keeps the section of a refusal, or that of the end of the input if no piece was refused.
-    ensures still { (n : ℕ) → HoldsSection v.old.held n → HoldsSection v.new.held n }
-    ensures section { TakesPieces v.old.held → ((r : ARefusal) → HoldsRefusal v.old.held r → ⊥)
-        → (p : AProfile) (limit : ℕ) (q : APolicy) (input : List ℕ) → Holds v.old.held p limit q input
-        → HoldsSection v.new.held (section_after p input) }
 {
     *answer = answered(alloc, v);
     answer.status
-}
-
-/// Writes the place of the byte that was refused; if none was, that of the next byte or of the end of the input. Returns
-/// 0, or 2 if the handle is empty. No contract pins the field `item`.
-#[unsafe(no_mangle)]
-pub extern "C" fn wmod_place(alloc: Global, v: &mut Handle, place: &mut Place) -> u32
-    ensures section { (n : ℕ) → HoldsSection v.old.held n → place.new.section ≡ n }
-    // If nothing is refused so far, it is the section of the next byte.
-    ensures next { TakesPieces v.old.held → ((r : ARefusal) → HoldsRefusal v.old.held r → ⊥)
-        → (p : AProfile) (limit : ℕ) (q : APolicy) (bytes : List ℕ) → Holds v.old.held p limit q bytes
-        → place.new.section ≡ section_after p bytes }
-    ensures same { v.new.held ≡ v.old.held }
-    ensures status { v.old.held ≢ None → result ≡ 0 }
-    ensures none { v.old.held ≡ None → (result ≡ 2) × (place.new ≡ nowhere) }
-{
-    match emptied(v).take(alloc) {
-        None => {
-            *place = Place::nowhere();
-            2
-        }
-        Some(loose) => {
-            let session = loose.into_box();
-            *place = session.place();
-            put(alloc, v, Handle::of(Loose::of(session)));
-            0
-        }
-    }
 }
 
 /// Frees what the handle holds, and leaves it empty.
@@ -185,10 +144,6 @@ fn answered(alloc: Global, v: &mut Handle) -> Answer
     ensures again { (a : AnAnswer) → HoldsAnswer v.old.held a → (result ≡ a) × (v.new.held ≡ v.old.held) }
     ensures ended { v.old.held ≢ None → HoldsAnswer v.new.held result }
     ensures none { v.old.held ≡ None → (result ≡ misuse) × (v.new.held ≡ None) }
-    ensures still { (n : ℕ) → HoldsSection v.old.held n → HoldsSection v.new.held n }
-    ensures section { TakesPieces v.old.held → ((r : ARefusal) → HoldsRefusal v.old.held r → ⊥)
-        → (p : AProfile) (limit : ℕ) (q : APolicy) (input : List ℕ) → Holds v.old.held p limit q input
-        → HoldsSection v.new.held (section_after p input) }
 {
     match emptied(v).take(alloc) {
         None => Answer::misused(),

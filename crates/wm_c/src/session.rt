@@ -1,16 +1,14 @@
-//! A session: a validator, or the answer and the place after the end of the input.
+//! A session: a validator, or the answer after the end of the input.
 
-ghost use Rattle.std.specs.Prelude.{◌≡◌, ◌≢◌, ◌≤◌, ◌^◌, ◌-◌, ◌++◌, ◌↔◌, ℕ, List, [], Err, IfSome, None, Some, take};
+ghost use Rattle.std.specs.Prelude.{◌≡◌, ◌≢◌, ◌≤◌, ◌^◌, ◌++◌, ◌↔◌, ℕ, List, [], Err, IfSome, Some};
 ghost use Rattle.wm_c.specs.Answers.{IsAnswerOf, IsRight, in_numbers};
 ghost use Rattle.wm_c.specs.Codes.{status_code};
-ghost use Rattle.wm_c.specs.Places.{in_fields, section_after};
-ghost use Rattle.wm_c.specs.Sessions.{HasTaken, HasEnded, IsIn, IsReading, IsOver};
+ghost use Rattle.wm_c.specs.Sessions.{HasTaken, HasEnded, IsReading, IsOver};
 ghost use Rattle.wm_c.specs.Sessions.{StateRanOut, StateRefused, StateTaken};
 ghost use Rattle.wm_c.specs.declared.session.State.TheVariants.{Ended};
 ghost use Rattle.wm_machine.specs.declared.refusal.Refusal.{Refusal as ARefusal};
 ghost use Rattle.wm_rules.specs.Validation.{Accepted};
 ghost use Rattle.wm_rules.specs.declared.policy.Policy.{Policy as APolicy};
-ghost use Rattle.wm_rules.specs.inner.Finding.{found_by};
 ghost use Rattle.wm_rules.specs.inner.Validators.{HasRead, HavingRead, refusal_in};
 ghost use Rattle.wm_syntax.specs.declared.profile.Profile.{Profile as AProfile};
 ghost use Rattle.wm_syntax.specs.declared.why.Why.TheVariants.{Memory};
@@ -18,18 +16,15 @@ ghost use Rattle.wm_syntax.specs.declared.why.Why.TheVariants.{Memory};
 use crate::answer::Answer;
 use crate::codes::refused_status;
 use crate::options::Asked;
-use crate::place::Place;
 use std::alloc::Global;
 use std::mem;
 use wm_decode::Refusal;
 use wm_rules::{Summary, Validator};
 
-/// Judges an input that comes in pieces, and keeps the answer and its place.
+/// Judges an input that comes in pieces, and keeps the answer.
 #[derive(Drop)]
 pub struct Session {
     pub state: State,
-    // set by the end of the input
-    pub place: Place,
 }
 
 /// The state of a session: it reads, or it has its answer.
@@ -56,7 +51,6 @@ impl Session {
         } = asked;
         Session {
             state: State::Reading(Validator::new(alloc, profile, max_bytes, policy)),
-            place: Place::nowhere(),
         }
     }
 
@@ -80,12 +74,6 @@ impl Session {
             × StateRefused self.new.state r }
         ensures stays { (r : ARefusal) → StateRefused self.old.state r → (result ≡ status_code r.why)
             × StateRefused self.new.state r }
-        // The session is in the section of the byte at the offset of a first refusal, and stays there.
-        ensures section { result ≡ 1 → ((r : ARefusal) → StateRefused self.old.state r → ⊥)
-            → (p : AProfile) (limit : ℕ) (q : APolicy) (before : List ℕ) → HasTaken self.old p limit q before
-            → (r : ARefusal) → StateRefused self.new.state r
-            → IsIn self.new (section_after p (take (r.at - 1) (before ++ piece.now))) }
-        ensures still { (n : ℕ) → IsIn self.old n → IsIn self.new n }
     {
         match &mut self.state {
             State::Reading(validator) => fed(validator, piece),
@@ -101,31 +89,10 @@ impl Session {
         ensures told { (r : ARefusal) → StateRefused self.old.state r → result ≡ in_numbers (Err r) }
         ensures ended { HasEnded self.new result }
         ensures again { (a : _) → HasEnded self.old a → (result ≡ a) × (self.new ≡ self.old) }
-        ensures still { (n : ℕ) → IsIn self.old n → IsIn self.new n }
-        // If no piece was refused, the session is in the section that the end of the input lies in.
-        ensures section { IsReading self.old.state → ((r : ARefusal) → StateRefused self.old.state r → ⊥)
-            → (p : AProfile) (limit : ℕ) (q : APolicy) (input : List ℕ) → HasTaken self.old p limit q input
-            → IsIn self.new (section_after p input) }
     {
-        self.place = self.place();
         let answer = answer_of(mem::replace(&mut self.state, State::Ended(Answer::misused())));
         self.state = State::Ended(answer);
         answer
-    }
-
-    /// Returns the place of the byte that was refused. If none was, returns that of the next byte, or of the end of the
-    /// input once the session has its answer.
-    pub fn place(&self) -> Place
-        ensures section { (n : ℕ) → IsIn self.now n → result.section ≡ n }
-        ensures next { IsReading self.now.state → ((r : ARefusal) → StateRefused self.now.state r → ⊥)
-            → (p : AProfile) (limit : ℕ) (q : APolicy) (bytes : List ℕ) → HasTaken self.now p limit q bytes
-            → result.section ≡ section_after p bytes }
-        ensures ended { IsOver self.now.state → result ≡ self.now.place }
-    {
-        match &self.state {
-            State::Reading(validator) => Place::of(validator.place()),
-            State::Ended(_) => self.place,
-        }
     }
 }
 
@@ -143,11 +110,6 @@ fn fed(validator: &mut Validator, piece: &[u8]) -> u32
         × (refusal_in validator.new ≡ Some r) }
     ensures stays { (r : ARefusal) → refusal_in validator.old ≡ Some r → (result ≡ status_code r.why)
         × (refusal_in validator.new ≡ Some r) }
-    ensures section { result ≡ 1 → refusal_in validator.old ≡ None → HavingRead validator.old
-        (λ p limit q before. (r : ARefusal) → refusal_in validator.new ≡ Some r
-        → (in_fields (found_by validator.new).place).section
-        ≡ section_after p (take (r.at - 1) (before ++ piece.now))) }
-    ensures still { (r : ARefusal) → refusal_in validator.old ≡ Some r → validator.new ≡ validator.old }
 {
     match validator.feed(piece) {
         Ok(()) => 0,
