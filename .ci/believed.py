@@ -69,7 +69,7 @@ wm_typing FuncTypes: *params: Vec<ValType>, *entries: Vec<TypeEntry>
 wm_typing TypeEntry: start: usize, count: usize, result: Option<ValType>
 wm_typing DeclaredLocals: *table: RunTable, known: KnownLocals, probes: u64
 wm_typing BodyChecker: function: Function, *declared: DeclaredLocals, *stacks: Stacks, table: Option<BrTable>, most: Most, refused: Option<Why>, apart: bool
-wm_decode Decoder: *sink: S, machine: Machine, last_member: u32, *name: Vec<u8>, at: u64, max_bytes: u64, profile: Profile
+wm_decode Decoder: *sink: S, machine: Machine, *name: Vec<u8>, at: u64, max_bytes: u64, last_member: u32, profile: Profile
 wm_rules Spaces: *types: FuncTypes, *functions: Vec<u32>, *globals: Vec<GlobalType>, imported_functions: usize, imported_globals: usize, bodies: usize, table: bool, memory: bool
 wm_rules ExportNames: alloc: Global, *names: BTreeSet<HashedName>, kept: u64
 wm_rules HashedName: hash: u64, *name: Vec<u8>
@@ -77,8 +77,8 @@ wm_rules Rules: *spaces: Spaces, *names: ExportNames, constant: Option<Constant>
 wm_rules Checker: *rules: Rules, counts: Option<Counts>
 wm_rules Builder: alloc: Global, *module_value: Module, *indices: Vec<u32>, *module_name: String, *item_name: String, *exported: String, constant: Option<Pending>, *locals: Option<Locals>, *body: BodyBuilder
 wm_rules Both: *first: A, *second: B
-wm_rules Validator: *state: Result<Decoder<Checker>, Refusal>, found: Found
-wm_rules Loader: *state: Result<Decoder<Both<Checker, Builder>>, Refusal>, found: Found
+wm_rules Validator: *state: Result<Decoder<Checker>, Refusal>, imported: Imported
+wm_rules Loader: *state: Result<Decoder<Both<Checker, Builder>>, Refusal>, imported: Imported
 """
 
 # A line of a struct that has a field, in rustfmt's layout, and a line that has none.

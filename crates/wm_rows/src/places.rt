@@ -21,9 +21,13 @@ struct Refused {
 fn by_validator(alloc: Global, row: &Row, pieces: &[&[u8]]) -> Option<Refused> {
     let mut validator = Validator::new(alloc, row.profile, u64::from(row.limit), row.policy);
     for piece in pieces {
-        let _ = validator.feed(piece);
+        let before = validator.snapshot();
+        if let Err(refusal) = validator.feed(piece) {
+            let found = Found::in_piece(before, piece, refusal, validator.imported());
+            return Some(Refused { refusal, found });
+        }
     }
-    let found = validator.found();
+    let found = Found::at_end(validator.snapshot(), validator.imported());
     match validator.finish() {
         Ok(_) => None,
         Err(refusal) => Some(Refused { refusal, found }),
@@ -34,9 +38,13 @@ fn by_validator(alloc: Global, row: &Row, pieces: &[&[u8]]) -> Option<Refused> {
 fn by_loader(alloc: Global, row: &Row, pieces: &[&[u8]]) -> Option<Refused> {
     let mut loader = Loader::new(alloc, row.profile, u64::from(row.limit), row.policy);
     for piece in pieces {
-        let _ = loader.feed(piece);
+        let before = loader.snapshot();
+        if let Err(refusal) = loader.feed(piece) {
+            let found = Found::in_piece(before, piece, refusal, loader.imported());
+            return Some(Refused { refusal, found });
+        }
     }
-    let found = loader.found();
+    let found = Found::at_end(loader.snapshot(), loader.imported());
     match loader.finish() {
         Ok(_) => None,
         Err(refusal) => Some(Refused { refusal, found }),

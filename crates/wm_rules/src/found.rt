@@ -2,8 +2,7 @@
 
 ghost use Rattle.std.specs.Prelude.{◌<◌, ◌≤◌, ◌++◌, ℕ, List, length};
 ghost use Rattle.wm_syntax.specs.declared.profile.Profile.{Profile as AProfile};
-ghost use Rattle.wm_decode.specs.inner.Places.{IsAfter};
-ghost use Rattle.wm_rules.specs.inner.Finding.{IsFound};
+ghost use Rattle.wm_rules.specs.inner.Finding.{IsAfterAny, IsFound, IsFoundAtEnd};
 
 use wm_decode::{Place, Refusal, Snapshot};
 use wm_syntax::why::Why;
@@ -26,30 +25,36 @@ pub struct Found {
     pub imported: Imported,
 }
 
-impl Found {
-    /// What is known before the first byte.
-    pub(crate) fn nothing() -> Found {
-        Found {
-            byte: None,
-            place: None,
-            imported: Imported {
-                functions: 0,
-                globals: 0,
-            },
+impl Imported {
+    /// Returns the numbers before the first byte.
+    pub(crate) fn none() -> Imported {
+        Imported {
+            functions: 0,
+            globals: 0,
         }
     }
+}
 
-    /// Returns what is known of a refused byte of a piece, for a decoder that was in the state `before`.
-    pub(crate) fn in_piece(
-        before: &Snapshot,
+impl Found {
+    /// Returns what is known of the byte at which a piece was refused. `before` is the snapshot of the validator or the
+    /// loader before the piece, and `imported` its imports after it. The piece is read again up to this byte.
+    pub fn in_piece(
+        before: Option<Snapshot>,
         piece: &[u8],
         refusal: Refusal,
         imported: Imported,
     ) -> Found
-        ensures { (p : AProfile) (bytes : List ℕ) → IsAfter before.now p bytes → length bytes < refusal.at
+        ensures { (p : AProfile) (bytes : List ℕ) → IsAfterAny before p bytes → length bytes < refusal.at
             → refusal.at ≤ length (bytes ++ piece.now)
             → IsFound result p (bytes ++ piece.now) refusal }
     {
+        let Some(before) = before else {
+            return Found {
+                byte: None,
+                place: None,
+                imported,
+            };
+        };
         let byte = match refusal.why {
             Why::TooLong | Why::Memory => None,
             _ => before.byte_in(piece, refusal.at),
@@ -57,6 +62,21 @@ impl Found {
         Found {
             byte,
             place: before.place_in(piece, refusal.at),
+            imported,
+        }
+    }
+
+    /// Returns what is known at the end of the input. `last` is the last snapshot of the validator or the loader.
+    pub fn at_end(last: Option<Snapshot>, imported: Imported) -> Found
+        ensures { (p : AProfile) (bytes : List ℕ) → IsAfterAny last p bytes → IsFoundAtEnd result p bytes }
+    {
+        let place = match last {
+            Some(last) => last.place(),
+            None => None,
+        };
+        Found {
+            byte: None,
+            place,
             imported,
         }
     }

@@ -29,14 +29,12 @@ fn admits(alloc: Global) -> bool {
 /// Whether the end of a module without its last instructions is located in its one body, and a whole module nowhere.
 fn locates(alloc: Global) -> bool {
     let end = locate(alloc, &[&ADD[..37]]);
-    let in_body = matches!(
-        end,
-        Some(Place {
-            section: 10,
-            item: Some(0),
-            awaits: Awaits::Opcode,
-        })
-    );
+    let in_body = Some(Place {
+        section: 10,
+        item: Some(0),
+        awaits: Awaits::Opcode,
+    });
+    let in_body = end.is_some_and(|end| end.byte.is_none() && end.place == in_body);
     in_body && locate(alloc, &[&ADD]).is_none()
 }
 

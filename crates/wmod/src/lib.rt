@@ -5,7 +5,7 @@
 #![tactic(auto)]
 
 // judging a module
-pub use wm_decode::{Awaits, Place, Refusal};
+pub use wm_decode::{Awaits, Place, Refusal, Snapshot};
 pub use wm_rules::{
     Found, FromFault, Imported, Policy, Summary, Validator, validate, validate_from,
 };

@@ -1,14 +1,13 @@
--- What a validator or a loader has found where it refused.
-use Rattle.std.specs.Prelude.{◌≡◌, ◌≢◌, ◌-◌, ◌⊎◌, ℕ, List, Option, None, IfSome, Result, Ok, Err, slice_get, take}
+-- What is known of the byte at which an input was refused.
+use Rattle.std.specs.Prelude.{◌≡◌, ◌≢◌, ◌-◌, ◌⊎◌, ℕ, List, Option, None, Some, IfSome, Result, Ok, Err, slice_get, take}
 use Rattle.wm_syntax.specs.declared.profile.Profile.{Profile}
 use Rattle.wm_syntax.specs.declared.why.Why.TheVariants as why
 use Rattle.wm_machine.specs.declared.refusal.Refusal.{Refusal}
-use Rattle.wm_decode.specs.inner.Places.{spot_after, spot_of}
+use Rattle.wm_decode.specs.declared.place.Snapshot.{Snapshot}
+use Rattle.wm_decode.specs.inner.Places.{IsAfter, spot_after, spot_of}
 use Rattle.wm_rules.specs.declared.found.Found.{Found}
-use Rattle.wm_rules.specs.declared.loader.state.Loader.{Loader}
 use Rattle.wm_rules.specs.declared.reading.FromFault.{FromFault}
 use Rattle.wm_rules.specs.declared.reading.FromFault.TheVariants.{Refused, Io}
-use Rattle.wm_rules.specs.declared.validator.Validator.{Validator}
 
 -- The place is that of the byte at the offset of the refusal, and it is the refused byte.
 pub record IsFound (f : Found) (p : Profile) (bytes : List ℕ) (r : Refusal) : Type 0 where
@@ -20,13 +19,10 @@ pub record IsFoundAtEnd (f : Found) (p : Profile) (bytes : List ℕ) : Type 0 wh
   pub place : spot_of f.place ≡ spot_after p bytes
   pub byte : f.byte ≡ None
 
--- what a validator has found where it refused
-abbrev pub found_by : Validator → Found
-found_by v = v.found
-
--- what a loader has found where it refused
-abbrev pub found_by_loader : Loader → Found
-found_by_loader l = l.found
+-- The snapshot is that of a decoder after these bytes. No absent one is.
+abbrev pub IsAfterAny : Option Snapshot → Profile → List ℕ → Type 0
+IsAfterAny None p bytes = ⊥
+IsAfterAny (Some s) p bytes = IsAfter s p bytes
 
 -- The place in a refusal of this input is that of the byte that decided, or of the end. Nothing is claimed of a refusal
 -- with `Memory`.

@@ -7,7 +7,7 @@ ghost use Rattle.wm_rules.specs.inner.Loading.{HasReadSome};
 use crate::both::Both;
 use crate::builder::Builder;
 use crate::checker::Checker;
-use crate::found::Found;
+use crate::found::Imported;
 use wm_decode::{Decoder, Refusal};
 use wm_syntax::modules::Module;
 
@@ -18,11 +18,12 @@ pub struct Checked {
     ghost loaded: { ∥ IsLoaded (value_of module_value) ∥₁ },
 }
 
-/// Loads a module that comes in pieces. After a refusal it holds only the refusal, and what it found there.
+/// Loads a module that comes in pieces. After a refusal it holds only the refusal, and how much
+/// was imported.
 #[derive(Debug, Drop)]
 pub struct Loader {
     pub(crate) state: Result<Decoder<Both<Checker, Builder>>, Refusal>,
-    // set by a refusal
-    pub(crate) found: Found,
+    // the imports before a refusal
+    pub(crate) imported: Imported,
     ghost read: { ∥ HasReadSome state ∥₁ },
 }
