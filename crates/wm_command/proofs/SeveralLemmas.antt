@@ -1,8 +1,12 @@
 -- Lemmas about runs over several files: their statuses, and the names in a list.
-use Rattle.std.proofs.Common.{◌≡◌, ◌∙◌, ◌++◌, ℕ, zero, suc, Bool, true, false, List, [], ◌∷◌, Option, Some, None, IfSome, inl, inr, refl, sym, ap, subst, append-nil, length, take, arith, ◌<◌, ◌==◌, ◌⊎◌}
+use Rattle.std.proofs.Common.{◌≡◌, ◌∙◌, ◌++◌, ℕ, zero, suc, Bool, true, false, List, [], ◌∷◌, Option, Some, None, IfSome, inl, inr, refl, sym, ap, subst, append-nil, length, take, arith, drop, map, get_or, Bor, ◌<◌, ◌≤◌, ◌+◌, ◌==◌, ◌||◌, ◌⊎◌}
 use Rattle.std.specs.Prelude.{if◌then◌else◌}
+use Rattle.std.proofs.lemmas.List.{drop-map, drop_all, drop_more, length-map}
 use Rattle.std.proofs.lemmas.List.Sums.{fold-append}
-use Rattle.std.specs.Io.BufRead.{drop_through, ends_with_byte, first_piece, strip_last, take_through}
+use Rattle.std.specs.List.{list_any}
+use native.Mathlib.Numerals.{unary_clauses}
+use Rattle.std.specs.Io.KnownBytes.{IsAtEnd}
+use Rattle.std.specs.Io.BufRead.{DropsThrough, drop_through, ends_with_byte, first_piece, strip_last, take_through}
 use Rattle.wm_command.specs.Lists.{names_in, with_front}
 use Rattle.wm_command.specs.Several.{AreRight, IsOfEach, greater, greatest}
 use Rattle.wm_command.specs.declared.status.Status.{Status}
@@ -45,6 +49,25 @@ pub reached_cut : (Right : List ℕ → Status → Type 0) (names rest : List (L
     → IsOfEach Right names (greater worst failure)
 reached_cut Right names rest worst failure (done, statuses, are, right, is) kind = (done, rest, statuses, are, right, inr (failure, kind, ap (λ w. greater w failure) is))
 
+-- The names of a slice, of which the run has reached this one.
+names_more : (names : List (Bor (List ℕ))) (i : ℕ) (d : Bor (List ℕ)) → i < length names → drop i (map (λ s. s.now) names) ≡ (get_or names i d).now ∷ drop (i + 1) (map (λ s. s.now) names)
+names_more names i d lt =
+    drop-map (λ s. s.now) i names ∙ ap (map (λ s. s.now)) (drop_more names i d lt) ∙ ap (λ rest. (get_or names i d).now ∷ rest) (sym (drop-map (λ s. s.now) (i + 1) names))
+
+pub reached_at : (Right : List ℕ → Status → Type 0) (names : List (Bor (List ℕ))) (i : ℕ) (d : Bor (List ℕ)) (worst status next : Status) → i < length names
+    → Reached Right (map (λ s. s.now) names) (drop i (map (λ s. s.now) names)) worst → Right (get_or names i d).now status → next ≡ greater worst status
+    → Reached Right (map (λ s. s.now) names) (drop (i + 1) (map (λ s. s.now) names)) next
+reached_at Right names i d worst status next lt reached right is =
+    let all = map (λ s. s.now) names in
+    reached_more Right all (get_or names i d).now (drop (i + 1) all) worst status next (subst (λ rest. Reached Right all rest worst) (names_more names i d lt) reached) right is
+
+pub reached_end : (Right : List ℕ → Status → Type 0) (names : List (Bor (List ℕ))) (i : ℕ) (worst : Status) → length names ≤ i
+    → Reached Right (map (λ s. s.now) names) (drop i (map (λ s. s.now) names)) worst → IsOfEach Right (map (λ s. s.now) names) worst
+reached_end Right names i worst le reached =
+    let all = map (λ s. s.now) names in
+    let size : length all ≡ length names = length-map names (λ s. s.now) in
+    reached_all Right all (drop i all) worst reached (drop_all i all (omega (arith, size, le)))
+
 -- ---- names
 
 strip_more : (end x y : ℕ) (ys : List ℕ) (b : Bool) → (if b then x ∷ take (length ys) (y ∷ ys) else x ∷ y ∷ ys) ≡ x ∷ (if b then take (length ys) (y ∷ ys) else y ∷ ys)
@@ -53,7 +76,7 @@ strip_more end x y ys false = refl
 
 front_more : (end x y : ℕ) (ys : List ℕ) (b : Bool) → strip_last end (x ∷ (if b then y ∷ [] else y ∷ take_through end ys)) ≡ x ∷ strip_last end (if b then y ∷ [] else y ∷ take_through end ys)
 front_more end x y ys true = strip_more end x y [] (ends_with_byte end (y ∷ []))
-front_more end x y ys false = strip_more end x y (take_through end ys) (ends_with_byte end (y ∷ take_through end ys))
+front_more end x y ys false = simp unary_clauses (strip_more end x y (take_through end ys) (ends_with_byte end (y ∷ take_through end ys)))
 
 names_by : (end x : ℕ) (xs : List ℕ) (b : Bool) → (x == end) ≡ b → (if b then [] ∷ names_in end xs else with_front x (names_in end xs))
     ≡ strip_last end (if b then x ∷ [] else x ∷ take_through end xs) ∷ names_in end (if b then xs else drop_through end xs)
@@ -66,3 +89,50 @@ names_by end x (y ∷ ys) false is =
 pub names_first : (end : ℕ) (xs : List ℕ) → 0 < length xs → names_in end xs ≡ first_piece end xs ∷ names_in end (drop_through end xs)
 names_first end [] lt = absurd (omega (arith, lt))
 names_first end (x ∷ xs) lt = names_by end x xs (x == end) refl
+
+-- ---- lists
+
+-- The run has reached the names in `now`, the last bytes of a list. Nothing is said of a list of unknown bytes.
+abbrev pub Listed : (List ℕ → Status → Type 0) → ℕ → Option (List ℕ) → Option (List ℕ) → Status → Type 0
+Listed Right end old now worst = IfSome old (λ bytes. (rest : List ℕ) × (now ≡ Some rest) × Reached Right (names_in end bytes) (names_in end rest) worst)
+
+-- The status of the run is right for the list.
+abbrev pub IsOfList : (List ℕ → Status → Type 0) → ℕ → Option (List ℕ) → Status → Type 0
+IsOfList Right end old result = IfSome old (λ bytes. IsOfEach Right (names_in end bytes) result)
+
+pub listed_none : (Right : List ℕ → Status → Type 0) (end : ℕ) (old now : Option (List ℕ)) (worst : Status) → now ≡ old → worst ≡ Done → Listed Right end old now worst
+listed_none Right end None now worst is done = tt
+listed_none Right end (Some bytes) now worst is done = (bytes, is, reached_none Right (names_in end bytes) worst done)
+
+pub listed_cut : (Right : List ℕ → Status → Type 0) (end : ℕ) (old now : Option (List ℕ)) (worst failure result : Status) → Listed Right end old now worst → (failure ≡ Io) ⊎ (failure ≡ Memory)
+    → result ≡ greater worst failure → IsOfList Right end old result
+listed_cut Right end None now worst failure result listed kind is = tt
+listed_cut Right end (Some bytes) now worst failure result (rest, now_is, reached) kind is =
+    subst (IsOfEach Right (names_in end bytes)) (sym is) (reached_cut Right (names_in end bytes) (names_in end rest) worst failure reached kind)
+
+pub listed_all : (Right : List ℕ → Status → Type 0) (end : ℕ) (old now : Option (List ℕ)) (worst : Status) → Listed Right end old now worst → IsAtEnd now → IsOfList Right end old worst
+listed_all Right end None now worst listed at_end = tt
+listed_all Right end (Some bytes) now worst (rest, is, reached) at_end =
+    reached_all Right (names_in end bytes) (names_in end rest) worst reached (ap (names_in end) (subst IsAtEnd is at_end))
+
+pub listed_more : (Right : List ℕ → Status → Type 0) (end byte : ℕ) (old now next : Option (List ℕ)) (name : List ℕ) (worst status new : Status) → Listed Right end old now worst → byte ≡ end
+    → IfSome now (λ xs. (0 < length xs) × (name ≡ first_piece byte xs)) → DropsThrough now next byte → Right name status → new ≡ greater worst status → Listed Right end old next new
+listed_more Right end byte None now next name worst status new listed same piece drops right is = tt
+listed_more Right end byte (Some bytes) now next name worst status new (rest, now_is, reached) same piece drops right is =
+    let here = subst (λ o. IfSome o (λ xs. (0 < length xs) × (name ≡ first_piece byte xs))) now_is piece in
+    let gone : next ≡ Some (drop_through byte rest) = subst (λ o. DropsThrough o next byte) now_is drops in
+    let named : name ≡ first_piece end rest = here.1 ∙ ap (λ b. first_piece b rest) same in
+    let all = names_in end bytes in
+    let at = subst (λ names. Reached Right all names worst) (names_first end rest here.0) reached in (
+      drop_through end rest,
+      gone ∙ ap (λ b. Some (drop_through b rest)) same,
+      reached_more Right all (first_piece end rest) (names_in end (drop_through end rest)) worst status new at (subst (λ n. Right n status) named right) is,
+    )
+
+-- ---- names as they are shown
+
+pub any_one : {X : Type 0} (p : X → Bool) (x : X) → list_any p (x ∷ []) ≡ p x
+any_one p x = go (p x) where
+  go : (b : Bool) → (b || false) ≡ b
+  go true = refl
+  go false = refl

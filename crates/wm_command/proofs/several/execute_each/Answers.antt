@@ -1,23 +1,25 @@
-use Rattle.std.proofs.Common.{rules, ◌≡◌, ◌≢◌, ◌↔◌, ◌||◌, ℕ, List, Option, Some, None, IfOk, IfSome, false, length, map, true, ◌+◌, ◌-◌, ◌*◌, ◌<◌, ◌≤◌, ◌/◌, ◌%◌, Bool, nat_eq, nat_lt, [], ◌∷◌, ◌++◌, slice_index_or, slice_set, bit_and, bit_or, Fits, w8, w32, w64, Bor, MutBor}
-use Rattle.std.specs.String.{string_bytes}
-use Rattle.wm_command.specs.Answers.{IsAnswered}
-use Rattle.wm_command.specs.Outcome.{IsOutput, IsRightFor}
-use Rattle.wm_command.specs.Several.{IsOfEach, IsRightAt, IsShown, greater, line_for, one_line, spaced}
-use Rattle.wm_command.specs.declared.status.Status.{Status}
+use Rattle.std.proofs.Common.{◌≤◌, List, ℕ, Some, arith, drop, inl, length, map, refl, subst, sym}
+use Rattle.wm_command.specs.Several.{IsOfEach, IsRightAt}
+use Rattle.wm_command.specs.declared.status.Status.TheVariants.{Io}
+use Rattle.wm_command.proofs.SeveralLemmas.{reached_at, reached_cut, reached_end, reached_none}
 use Rattle.wm_command.proofs.several.execute_each.Goals as goal
 
--- src/several.rt:242:5
 pub loop-name-init : goal.loop-name-init
-loop-name-init g c = ?
+loop-name-init g c = reached_none _ _ _ c.new-progress.ensures
 
--- src/several.rt:245:34
 pub returns-in-Err : goal.returns-in-Err
-returns-in-Err g c = ?
+returns-in-Err g c =
+    let all = map (λ s. s.now) c.args.names.now in
+    let right = λ name. IsRightAt (g.O.Opens.held_at c.args.files.now) c.args.line.now (Some name) in
+    subst (IsOfEach right all) (sym c.greater_of.ensures) (reached_cut right all (drop c.loop-name.name-index all) c.loop-name.progress.worst Io c.loop-name.invariant (inl refl))
 
--- src/several.rt:242:5
 pub loop-name-preserved : goal.loop-name-preserved
-loop-name-preserved g c = ?
+loop-name-preserved g c =
+    let right = λ name. IsRightAt (g.O.Opens.held_at c.args.files.now) c.args.line.now (Some name) in
+    reached_at right c.args.names.now c.loop-name.name-index _ c.loop-name.progress.worst c.in-Ok.ensures.0 c.in-Ok.next.worst c.loop-name-test.true c.loop-name.invariant c.in-Ok.ensures.1 c.in-Ok.ensures.2
 
--- src/several.rt:232:1
 pub returns : goal.returns
-returns g c = ?
+returns g c =
+    let right = λ name. IsRightAt (g.O.Opens.held_at c.args.files.now) c.args.line.now (Some name) in
+    let le : length c.args.names.now ≤ c.loop-name.name-index = omega (arith, c.loop-name-test.false) in
+    reached_end right c.args.names.now c.loop-name.name-index c.loop-name.progress.worst le c.loop-name.invariant
