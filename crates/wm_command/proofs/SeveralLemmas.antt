@@ -1,14 +1,16 @@
 -- Lemmas about runs over several files: their statuses, and the names in a list.
-use Rattle.std.proofs.Common.{◌≡◌, ◌∙◌, ◌++◌, ℕ, zero, suc, Bool, true, false, List, [], ◌∷◌, Option, Some, None, IfSome, inl, inr, refl, sym, ap, subst, append-nil, length, take, arith, drop, map, get_or, Bor, ◌<◌, ◌≤◌, ◌+◌, ◌==◌, ◌||◌, ◌⊎◌}
+use Rattle.std.proofs.Common.{◌≡◌, ◌∙◌, ◌++◌, ℕ, zero, suc, Bool, true, false, List, [], ◌∷◌, Option, Some, None, IfSome, inl, inr, refl, sym, ap, subst, append-nil, length, take, arith, drop, map, get_or, Bor, ◌<◌, ◌≤◌, ◌+◌, ◌==◌, ◌||◌, ◌⊎◌, ltb}
 use Rattle.std.specs.Prelude.{if◌then◌else◌}
 use Rattle.std.proofs.lemmas.List.{drop-map, drop_all, drop_more, length-map}
 use Rattle.std.proofs.lemmas.List.Sums.{fold-append}
 use Rattle.std.specs.List.{list_any}
+use Rattle.std.proofs.lemmas.Bool.Decides.{nat_tests}
 use native.Mathlib.Numerals.{unary_clauses}
 use Rattle.std.specs.Io.KnownBytes.{IsAtEnd}
-use Rattle.std.specs.Io.BufRead.{DropsThrough, drop_through, ends_with_byte, first_piece, strip_last, take_through}
+use Rattle.std.specs.Io.BufRead.{DropsThrough, drop_through, first_piece, strip_last, take_through}
+use Rattle.wm_command.specs.Answers.{IsAnswered}
 use Rattle.wm_command.specs.Lists.{names_in, with_front}
-use Rattle.wm_command.specs.Several.{AreRight, IsOfEach, greater, greatest}
+use Rattle.wm_command.specs.Several.{AreRight, IsOfEach, greater, greatest, line_for}
 use Rattle.wm_command.specs.declared.status.Status.{Status}
 use Rattle.wm_command.specs.declared.status.Status.TheVariants.{Done, Io, Memory}
 
@@ -74,9 +76,15 @@ strip_more : (end x y : ℕ) (ys : List ℕ) (b : Bool) → (if b then x ∷ tak
 strip_more end x y ys true = refl
 strip_more end x y ys false = refl
 
+positive : (n : ℕ) → ltb 0 (suc n) ≡ true
+positive n = grind (arith, nat_tests)
+
+strip_over : (end x y : ℕ) (ys : List ℕ) → strip_last end (x ∷ y ∷ ys) ≡ x ∷ strip_last end (y ∷ ys)
+strip_over end x y ys = simp (unary_clauses, positive) (strip_more end x y ys (get_or (y ∷ ys) (length ys) 0 == end))
+
 front_more : (end x y : ℕ) (ys : List ℕ) (b : Bool) → strip_last end (x ∷ (if b then y ∷ [] else y ∷ take_through end ys)) ≡ x ∷ strip_last end (if b then y ∷ [] else y ∷ take_through end ys)
-front_more end x y ys true = strip_more end x y [] (ends_with_byte end (y ∷ []))
-front_more end x y ys false = simp unary_clauses (strip_more end x y (take_through end ys) (ends_with_byte end (y ∷ take_through end ys)))
+front_more end x y ys true = strip_over end x y []
+front_more end x y ys false = strip_over end x y (take_through end ys)
 
 names_by : (end x : ℕ) (xs : List ℕ) (b : Bool) → (x == end) ≡ b → (if b then [] ∷ names_in end xs else with_front x (names_in end xs))
     ≡ strip_last end (if b then x ∷ [] else x ∷ take_through end xs) ∷ names_in end (if b then xs else drop_through end xs)
@@ -128,6 +136,23 @@ listed_more Right end byte (Some bytes) now next name worst status new (rest, no
       gone ∙ ap (λ b. Some (drop_through b rest)) same,
       reached_more Right all (first_piece end rest) (names_in end (drop_through end rest)) worst status new at (subst (λ n. Right n status) named right) is,
     )
+
+-- ---- the line of one file
+
+-- A vector that was empty has the whole text if it has not failed.
+pub held_text : (old new : Option (List ℕ)) (text now : List ℕ) (status wanted : Status) (failed flushed : Bool) → old ≡ Some [] → new ≡ Some now → failed ≡ false
+    → IsAnswered text wanted old new failed flushed status → (now ≡ text) × (status ≡ wanted)
+held_text old new text now status wanted failed flushed old_is new_is none told =
+    let started = subst (λ o. IsAnswered text wanted o new failed flushed status) old_is told in
+    let ended = subst (λ n. IsAnswered text wanted (Some []) n failed flushed status) new_is started in
+    let whole : IsAnswered text wanted (Some []) (Some now) false flushed status = subst (λ b. IsAnswered text wanted (Some []) (Some now) b flushed status) none ended in
+    (whole.0, whole.2)
+
+-- An answer with the line of the held text is one with the line of the text that is right.
+pub line_answered : (front text now line : List ℕ) (status wanted result : Status) (old new : Option (List ℕ)) (failed flushed : Bool) → now ≡ text → status ≡ wanted → line ≡ line_for front now
+    → IsAnswered line status old new failed flushed result → IsAnswered (line_for front text) wanted old new failed flushed result
+line_answered front text now line status wanted result old new failed flushed text_is status_is line_is told =
+    subst (λ t. IsAnswered t wanted old new failed flushed result) (line_is ∙ ap (line_for front) text_is) (subst (λ s. IsAnswered line s old new failed flushed result) status_is told)
 
 -- ---- names as they are shown
 
