@@ -137,6 +137,23 @@ listed_more Right end byte (Some bytes) now next name worst status new (rest, no
       reached_more Right all (first_piece end rest) (names_in end (drop_through end rest)) worst status new at (subst (λ n. Right n status) named right) is,
     )
 
+-- ---- lists that cannot be read
+
+greater_first : (failure : Status) → (failure ≡ Io) ⊎ (failure ≡ Memory) → failure ≡ greater Done failure
+greater_first failure (inl is) = subst (λ f. f ≡ greater Done f) (sym is) refl
+greater_first failure (inr is) = subst (λ f. f ≡ greater Done f) (sym is) refl
+
+-- A list of which nothing is read ends the run before the first file.
+pub list_unread : (Right : List ℕ → Status → Type 0) (end : ℕ) (old : Option (List ℕ)) (failure : Status) → (failure ≡ Io) ⊎ (failure ≡ Memory) → IsOfList Right end old failure
+list_unread Right end None failure kind = tt
+list_unread Right end (Some bytes) failure kind = ([], names_in end bytes, [], refl, tt, inr (failure, kind, greater_first failure kind))
+
+-- So does a list that is not opened.
+pub list_closed : (Right : List ℕ → Status → Type 0) (end : ℕ) (path : Option (List ℕ)) (held : List ℕ → Option (List ℕ)) (failure : Status) → (failure ≡ Io) ⊎ (failure ≡ Memory)
+    → IfSome path (λ p. IfSome (held p) (λ bytes. IsOfEach Right (names_in end bytes) failure))
+list_closed Right end None held failure kind = tt
+list_closed Right end (Some p) held failure kind = list_unread Right end (held p) failure kind
+
 -- ---- the line of one file
 
 -- A vector that was empty has the whole text if it has not failed.
