@@ -127,6 +127,5 @@ text_status_code text.Memory = 4
 text_status_code text.BadFloat = 1
 
 -- This is the number of this profile. Any other number is that of none.
-abbrev pub IsProfileCode : ℕ → Profile → Type 0
-IsProfileCode n p = ((n ≡ 1) × (p ≡ one)) ⊎ ((n ≡ 2) × (p ≡ two)) ⊎ ((n ≡ 3) × (p ≡ three))
-    ⊎ ((n ≡ 4) × (p ≡ four))
+pub record IsProfileCode (n : ℕ) (p : Profile) : Type 0 where
+  pub is : ((n ≡ 1) × (p ≡ one)) ⊎ ((n ≡ 2) × (p ≡ two)) ⊎ ((n ≡ 3) × (p ≡ three)) ⊎ ((n ≡ 4) × (p ≡ four))

@@ -15,6 +15,7 @@ use Rattle.wm_command.specs.declared.arguments.Action.TheVariants.{Build}
 use Rattle.wm_command.specs.Lines.{FilesFit, IsActionWord, IsLimit, IsMost, IsPolicy, IsProfile, IsWrong, NoneIsWrong, Stands, TakesMany, WritesModule, action_name, files_found, files_of, head_of, wmod, word_of}
 use Rattle.wm_rules.specs.declared.policy.Policy.{Policy}
 use Rattle.wm_syntax.specs.declared.profile.Profile.{Profile}
+use Rattle.wm_syntax.specs.Profiles.{one}
 
 simple : is_simple wmod ≡ true
 unfolding clap_on_literals
@@ -112,3 +113,7 @@ opened path p held left P is gives right =
 -- An absent `--limit` gives a limit.
 pub default_limit : {S : Type 0} (text : Option S) (f : S → Text) (said : Option Text) → option_map f text ≡ said → text ≡ None → (n : ℕ) × IsLimit said n
 default_limit text f said e is = (4294967295, subst (λ o. IsLimit o 4294967295) (ap (option_map f) (sym is) ∙ e) refl)
+
+-- an absent value of `--profile`
+pub default_profile : {S : Type 0} (text : Option S) (f : S → Text) (said : Option Text) → option_map f text ≡ said → text ≡ None → (p : Profile) × IsProfile said p
+default_profile text f said e is = (one, subst (λ o. IsProfile o one) (ap (option_map f) (sym is) ∙ e) refl)

@@ -642,10 +642,12 @@ fn no_profile<'a>(matches: &ArgMatches<'a>) -> Option<&'a str>
         MatchOption result ((p : Profile) × IsProfile word p)
         (λ text. (word ≡ Some text.now) × ((p : Profile) → NamesProfile text.now p → ⊥)) }
 {
-    let text = matches.get_str("profile")?;
-    match profile_of(text) {
-        Some(_) => None,
-        None => Some(text),
+    match matches.get_str("profile") {
+        None => None,
+        Some(word) => match profile_of(word) {
+            Some(_) => None,
+            None => Some(word),
+        },
     }
 }
 

@@ -10,12 +10,12 @@ use Rattle.wm_command.proofs.several.run_named.Goals as goal
 
 pub returns-in-Ok-line_of-clause-answered : goal.returns-in-Ok-line_of-clause-answered
 returns-in-Ok-line_of-clause-answered g c = λ reads kept.
-    let no_memory : c.run_line.result.status ≢ Memory = λ e. false≢true (sym c.if-eq.false ∙ c.eq.ensures ∙ ap (λ s. sameb the_type s Memory) e) in
-    let told = c.run_line.ensures.answered reads no_memory in
+    let no_memory : c.run_line-status.result.status ≢ Memory = λ e. false≢true (sym c.if-eq.false ∙ c.eq.ensures ∙ ap (λ s. sameb the_type s Memory) e) in
+    let told = c.run_line-status.ensures.answered reads no_memory in
     let start : Some c.new-held.result.inner.items ≡ Some [] = ap (λ v. Some (vec_items v)) c.new-held.ensures.inner ∙ ap Some c.in-Ok.ensures.items in
-    let end : Some c.run_line.new.w.inner.items ≡ Some c.into_inner.result.items = ap (λ v. Some (vec_items v)) (sym c.into_inner.ensures) in
-    let none : c.run_line.new.w.failed ≡ false = sym c.failed-2.ensures ∙ c.if-failed-2.false in
-    let held = held_text _ _ told.0 c.into_inner.result.items c.run_line.result.status told.1 _ _ start end none told.4 in
+    let end : Some c.run_line-status.new.w.inner.items ≡ Some c.into_inner.result.items = ap (λ v. Some (vec_items v)) (sym c.into_inner.ensures) in
+    let none : c.run_line-status.new.w.failed ≡ false = sym c.failed-2.ensures ∙ c.if-failed-2.false in
+    let held = held_text _ _ told.0 c.into_inner.result.items c.run_line-status.result.status told.1 _ _ start end none told.4 in
     let line = c.in-Ok-line_of.ensures in (
       told.0,
       line.0,
