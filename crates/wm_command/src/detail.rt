@@ -105,13 +105,16 @@ fn ends_token(byte: u8) -> bool {
 }
 
 /// Returns the length of the string at the front of this text, with its quotation marks. A string that does not end
-/// has the length of the text.
+/// has the length of the text. A string that is too long to be shown has any length above `MOST`.
 fn string_length(text: &[u8]) -> usize
     ensures { result ≤ length text.now }
 {
     // the first quotation mark opens the string
     let mut is_escaped = true;
     for (i, byte) in text.iter().enumerate() {
+        if i > MOST {
+            return i;
+        }
         if is_escaped {
             is_escaped = false;
         } else if *byte == b'"' {
@@ -123,7 +126,8 @@ fn string_length(text: &[u8]) -> usize
     text.len()
 }
 
-/// Returns the length of the token at the front of this text, or 0 if the text is empty.
+/// Returns the length of the token at the front of this text, or 0 if the text is empty. A token that is too long to be
+/// shown has any length above `MOST`.
 fn token_length(text: &[u8]) -> usize
     ensures { result ≤ length text.now }
 {
@@ -133,7 +137,7 @@ fn token_length(text: &[u8]) -> usize
         [b'(' | b')', ..] => 1,
         _ => {
             for (i, byte) in text.iter().enumerate() {
-                if i > 0 && ends_token(*byte) {
+                if i > MOST || i > 0 && ends_token(*byte) {
                     return i;
                 }
             }
