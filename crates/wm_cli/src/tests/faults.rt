@@ -1,14 +1,18 @@
 //! Runs in which the reader or the writer fails, once for each call that it gets in a run without a fault.
 
+ghost use Rattle.std.specs.Prelude.{◌≤◌, ◌^◌};
+
 use super::ends::{BROKEN, Fault, INTERRUPTED, Mode, Reader, Writer};
 use std::alloc::Global;
 use wm_command::arguments::{Action, Line};
 use wm_command::run::run;
 use wm_command::status::Status;
 use wm_decode::Refusal;
-use wm_rules::{Checked, FromFault, load_from, validate_from};
+use wm_read::spellings::Spellings;
+use wm_rules::{Checked, FromFault, Policy, load_from, validate_from};
 use wm_syntax::io::input::Input;
 use wm_syntax::io::output::Output;
+use wm_syntax::profile::Profile;
 use wm_write::encode::{WriteFault, encode};
 use wm_write::print::print;
 
@@ -49,24 +53,36 @@ impl Call {
     }
 }
 
-/// A call with its input. The line has the profile, the limit, the policy and the spellings.
+/// A call with its input. It has the profile, the limit, the policy and the spellings of a line.
 #[derive(Clone, Copy)]
 pub struct Task<'a> {
     pub alloc: Global,
     pub call: Call,
-    pub line: &'a Line<'a>,
+    pub profile: Profile,
+    pub limit: u64,
+    pub policy: Policy,
+    pub spellings: Spellings,
     pub input: &'a [u8],
+    ghost in_range: { limit ≤ 2 ^ 62 },
 }
 
 impl<'a> Task<'a> {
-    /// Returns the task of `run` with the action of this line.
-    pub fn of_line(alloc: Global, line: &'a Line<'a>, input: &'a [u8]) -> Self {
+    /// Returns the task of this call under this line.
+    fn new(alloc: Global, call: Call, line: &Line<'_>, input: &'a [u8]) -> Self {
         Task {
             alloc,
-            call: Call::Run(line.action),
-            line,
+            call,
+            profile: line.profile,
+            limit: line.limit,
+            policy: line.policy,
+            spellings: line.spellings,
             input,
         }
+    }
+
+    /// Returns the task of `run` with the action of this line.
+    pub fn of_line(alloc: Global, line: &Line<'_>, input: &'a [u8]) -> Self {
+        Task::new(alloc, Call::Run(line.action), line, input)
     }
 }
 
@@ -150,7 +166,7 @@ impl Answer {
 pub type Run<'a> = (Answer, Reader<'a>, Writer);
 
 fn follow_run<'a>(task: &Task<'a>, action: Action, reading: Mode, writing: Mode) -> Run<'a> {
-    let line = task.line;
+    let line = task;
     let mut source = Input::new(Reader::new(task.input, reading));
     let mut dest = Output::new(Writer::new(task.alloc, writing));
     let ended = run(
@@ -171,7 +187,7 @@ fn follow_run<'a>(task: &Task<'a>, action: Action, reading: Mode, writing: Mode)
 }
 
 fn validate<'a>(task: &Task<'a>, reading: Mode) -> (Answer, Reader<'a>) {
-    let line = task.line;
+    let line = task;
     let mut source = Input::new(Reader::new(task.input, reading));
     let judged = validate_from(
         task.alloc,
@@ -188,7 +204,7 @@ fn validate<'a>(task: &Task<'a>, reading: Mode) -> (Answer, Reader<'a>) {
 }
 
 fn load<'a>(task: &Task<'a>, reading: Mode) -> (Result<Checked, FromFault>, Reader<'a>) {
-    let line = task.line;
+    let line = task;
     let mut source = Input::new(Reader::new(task.input, reading));
     let loaded = load_from(
         task.alloc,
@@ -347,18 +363,13 @@ fn is_call_right(task: &Task, faults: &mut Faults) -> bool {
 }
 
 /// Whether each function that takes this input ends as it must. The input is a text if the line's action is `build`.
-pub fn are_faults_told(alloc: Global, line: &Line, input: &[u8], faults: &mut Faults) -> bool {
+pub fn are_faults_told(alloc: Global, line: &Line<'_>, input: &[u8], faults: &mut Faults) -> bool {
     let calls: &[Call] = match line.action {
         Action::Build => &OF_TEXTS,
         _ => &OF_BINARIES,
     };
     for call in calls {
-        let task = Task {
-            alloc,
-            call: *call,
-            line,
-            input,
-        };
+        let task = Task::new(alloc, *call, line, input);
         if !is_call_right(&task, faults) {
             return false;
         }
