@@ -39,7 +39,7 @@ impl Ended {
     }
 }
 
-/// What is known of a refusal.
+/// A refusal, with its place.
 #[derive(Clone, Copy)]
 pub enum Detail {
     /// A binary is refused. `found` is `None` if it is not known what decides, and for a text longer than the limit.
@@ -55,7 +55,7 @@ pub enum Detail {
     TooLarge,
 }
 
-/// What is known of the refusal of a text.
+/// The refusal of a text, with its line, its column and its token.
 #[derive(Clone, Copy)]
 pub struct TextDetail {
     pub at: usize,
@@ -63,7 +63,7 @@ pub struct TextDetail {
     pub line: usize,
     pub column: usize,
     pub token: Token,
-    /// What must come here, if it is known.
+    /// The only start of a text that may come here, if it is known.
     pub expected: Option<Start>,
 }
 

@@ -10,52 +10,52 @@ use wm_syntax::why::Why;
 pub const OF_FEATURES: &str = "\
     Float | any | any | any | a floating-point type or instruction | floats | use --profile 3, or 4 \
         with sign extension\n\
-    BadOpcode | any | opcode | C0 to C4 | a sign-extension instruction | sign-ext | use --profile 2, \
+    BadOpcode | any | opcode | c0 to c4 | a sign-extension instruction | sign-ext | use --profile 2, \
         or 4 with floats, or compile with -mno-sign-ext\n\
-    BadOpcode | any | opcode | FC | a saturating conversion, or an instruction on a whole memory or \
+    BadOpcode | any | opcode | fc | a saturating conversion, or an instruction on a whole memory or \
         table | nontrapping-fptoint, bulk-memory | compile with -mcpu=mvp\n\
-    SectionId | any | any | 0C | a data count section | bulk-memory | compile with -mno-bulk-memory\n\
+    SectionId | any | any | 0c | a data count section | bulk-memory | compile with -mno-bulk-memory\n\
     Index | data | number | 01 to 02 | no such index; as the first number of a segment, a later form \
         | bulk-memory | compile with -mno-bulk-memory\n\
     Index | element | number | 01 to 07 | no such index; as the first number of a segment, a later \
         form | bulk-memory, reference-types | compile with -mcpu=mvp\n\
-    BadByte | code | table byte | 80 to FF | a table index of more than one byte | reference-types | \
+    BadByte | code | table byte | 80 to ff | a table index of more than one byte | reference-types | \
         compile with -mcpu=mvp\n\
-    BadByte | code | table byte | 01 to 7F | a table other than the first | reference-types | \
+    BadByte | code | table byte | 01 to 7f | a table other than the first | reference-types | \
         compile with -mno-reference-types\n\
-    BadOpcode | any | opcode | D0 to D2 | an instruction on references | reference-types | compile \
+    BadOpcode | any | opcode | d0 to d2 | an instruction on references | reference-types | compile \
         with -mno-reference-types\n\
     BadOpcode | any | opcode | 25 to 26 | an access to a table | reference-types | compile with \
         -mno-reference-types\n\
-    BadOpcode | any | opcode | 1C | a select with its type | reference-types | compile with \
+    BadOpcode | any | opcode | 1c | a select with its type | reference-types | compile with \
         -mno-reference-types\n\
-    BadByte | any | value type | 6F to 70 | a reference type | reference-types | compile with \
+    BadByte | any | value type | 6f to 70 | a reference type | reference-types | compile with \
         -mno-reference-types\n\
-    BadByte | any | element type | 6F | the type externref | reference-types | compile with \
+    BadByte | any | element type | 6f | the type externref | reference-types | compile with \
         -mno-reference-types\n\
     Second | table | any | any | a second table | reference-types | compile with \
         -mno-reference-types\n\
     Arity | type | number | any | a function type with several results | multivalue | compile \
         with -mno-multivalue\n\
-    BadByte | any | block type | 00 to 3F | a type index as a block type | multivalue | compile with \
+    BadByte | any | block type | 00 to 3f | a type index as a block type | multivalue | compile with \
         -mno-multivalue\n\
-    BadByte | any | block type | 80 to FF | a type index as a block type | multivalue | compile with \
+    BadByte | any | block type | 80 to ff | a type index as a block type | multivalue | compile with \
         -mno-multivalue\n\
-    BadOpcode | any | opcode | FD | a vector instruction | simd128 | compile with -mno-simd128\n\
-    BadByte | any | value type | 7B | the vector type v128 | simd128 | compile with -mno-simd128\n\
-    BadOpcode | any | opcode | FE | an atomic instruction | atomics | compile without -pthread\n\
+    BadOpcode | any | opcode | fd | a vector instruction | simd128 | compile with -mno-simd128\n\
+    BadByte | any | value type | 7b | the vector type v128 | simd128 | compile with -mno-simd128\n\
+    BadOpcode | any | opcode | fe | an atomic instruction | atomics | compile without -pthread\n\
     BadByte | any | limits flag | 02 to 03 | a shared memory | atomics | compile without -pthread\n\
     BadOpcode | any | opcode | 12 to 13 | a tail call | tail-call | compile with -mno-tail-call\n\
-    BadOpcode | any | opcode | 06 to 0A | an instruction on exceptions | exception-handling | \
+    BadOpcode | any | opcode | 06 to 0a | an instruction on exceptions | exception-handling | \
         compile without -fwasm-exceptions\n\
     BadOpcode | any | opcode | 18 to 19 | an instruction on exceptions | exception-handling | \
         compile without -fwasm-exceptions\n\
-    BadOpcode | any | opcode | 1F | an instruction on exceptions | exception-handling | compile \
+    BadOpcode | any | opcode | 1f | an instruction on exceptions | exception-handling | compile \
         without -fwasm-exceptions\n\
     BadByte | any | value type | 69 | the type exnref | exception-handling | compile without \
         -fwasm-exceptions\n\
     BadByte | any | kind | 04 | a tag | exception-handling | compile without -fwasm-exceptions\n\
-    SectionId | any | any | 0D | a tag section | exception-handling | compile without \
+    SectionId | any | any | 0d | a tag section | exception-handling | compile without \
         -fwasm-exceptions\n\
     Arity | global | number | any | a second instruction in a constant expression | extended-const | \
         compile with -mno-extended-const\n\
@@ -63,20 +63,20 @@ pub const OF_FEATURES: &str = "\
         | compile with -mno-extended-const\n\
     Arity | data | number | any | a second instruction in a constant expression | extended-const | \
         compile with -mno-extended-const\n\
-    NotConst | any | opcode | 6A to 6C | arithmetic in a constant expression | extended-const | \
+    NotConst | any | opcode | 6a to 6c | arithmetic in a constant expression | extended-const | \
         compile with -mno-extended-const\n\
-    NotConst | any | opcode | 7C to 7E | arithmetic in a constant expression | extended-const | \
+    NotConst | any | opcode | 7c to 7e | arithmetic in a constant expression | extended-const | \
         compile with -mno-extended-const\n\
     BadByte | any | limits flag | 04 to 07 | a memory or a table with 64-bit addresses | memory64 | \
         compile with --target=wasm32\n\
-    BadByte | code | memory byte | 01 to FF | a memory other than the first | multimemory | compile \
+    BadByte | code | memory byte | 01 to ff | a memory other than the first | multimemory | compile \
         with -mno-multimemory\n\
     Second | memory | any | any | a second memory | multimemory | compile with -mno-multimemory\n\
     Second | import | any | any | a second table or memory | reference-types, multimemory | compile \
         with -mcpu=mvp\n\
     BadOpcode | any | opcode | 14 to 15 | a call of a function reference | function-references | \
         compile to WebAssembly 1.0\n\
-    BadOpcode | any | opcode | D4 to D6 | an instruction on references | function-references | \
+    BadOpcode | any | opcode | d4 to d6 | an instruction on references | function-references | \
         compile to WebAssembly 1.0\n\
     BadByte | any | value type | 63 to 64 | a typed reference | function-references | compile to \
         WebAssembly 1.0\n\
@@ -84,16 +84,16 @@ pub const OF_FEATURES: &str = "\
         WebAssembly 1.0\n\
     BadByte | table | element type | 40 | a table with an initial value | function-references | \
         compile to WebAssembly 1.0\n\
-    BadOpcode | any | opcode | FB | an instruction on structs and arrays | gc | compile to \
+    BadOpcode | any | opcode | fb | an instruction on structs and arrays | gc | compile to \
         WebAssembly 1.0\n\
-    BadOpcode | any | opcode | D3 | a comparison of references | gc | compile to WebAssembly 1.0\n\
-    BadByte | type | type form | 4E to 50 | a recursive type or a subtype | gc | compile to \
+    BadOpcode | any | opcode | d3 | a comparison of references | gc | compile to WebAssembly 1.0\n\
+    BadByte | type | type form | 4e to 50 | a recursive type or a subtype | gc | compile to \
         WebAssembly 1.0\n\
-    BadByte | type | type form | 5E to 5F | an array type or a struct type | gc | compile to \
+    BadByte | type | type form | 5e to 5f | an array type or a struct type | gc | compile to \
         WebAssembly 1.0\n\
-    BadByte | any | value type | 6A to 73 | a reference type | gc | compile to WebAssembly 1.0\n\
-    BadByte | any | element type | 6A to 73 | a reference type | gc | compile to WebAssembly 1.0\n\
-    Version | any | any | 0A to 0D | a component, not a module | component model | check the core \
+    BadByte | any | value type | 6a to 73 | a reference type | gc | compile to WebAssembly 1.0\n\
+    BadByte | any | element type | 6a to 73 | a reference type | gc | compile to WebAssembly 1.0\n\
+    Version | any | any | 0a to 0d | a component, not a module | component model | check the core \
         modules inside it";
 
 /// A line of the table.
@@ -124,7 +124,7 @@ fn byte_of(digits: &str) -> Option<u8> {
     u8::from_str_radix(digits, 16).ok()
 }
 
-/// Whether a cell such as `FC` or `C0 to C4` has this byte.
+/// Whether a cell such as `fc` or `c0 to c4` has this byte.
 fn has_byte(cell: &str, byte: u8) -> bool {
     if cell == "any" {
         return true;

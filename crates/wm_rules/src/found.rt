@@ -14,7 +14,7 @@ pub struct Imported {
     pub globals: u64,
 }
 
-/// What is known of the module where it was refused.
+/// The refused byte of a module, its place, and the imports before it.
 #[derive(Clone, Copy, PartialEq, Eq, Debug)]
 pub struct Found {
     /// The refused byte. `None` if the end of the input, the limit or memory decided.

@@ -9,7 +9,7 @@ detail wmod check < H 05 03 01 00 01 0B 04 01 01 01 61 = byte 0x01 at 0x10, data
 detail wmod check < H 04 04 01 70 00 01 09 04 01 01 00 00 = byte 0x01 at 0x11, element segment 0 (element section): no such index; as the first number of a segment, a later form (bulk-memory, reference-types); compile with -mcpu=mvp
 detail wmod check < H 01 04 01 60 00 00 03 02 01 00 04 04 01 70 00 01 0A 0D 01 0B 00 41 00 11 00 80 80 80 80 00 0B = byte 0x80 at 0x21, function 0 (code section): a table index of more than one byte (reference-types); compile with -mcpu=mvp
 detail wmod check < H 01 04 01 60 00 00 03 02 01 00 04 04 01 70 00 01 0A 09 01 07 00 41 00 11 00 01 0B = byte 0x01 at 0x21, function 0 (code section): a table other than the first (reference-types); compile with -mno-reference-types
-detail wmod check < H 01 04 01 60 00 00 03 02 01 00 0A 07 01 05 00 D0 70 1A 0B = byte 0xd0 at 0x17, function 0 (code section): an instruction on references (reference-types); compile with -mno-reference-types
+detail wmod check < H 01 04 01 60 00 00 03 02 01 00 0a 07 01 05 00 d0 70 1a 0b = byte 0xd0 at 0x17, function 0 (code section): an instruction on references (reference-types); compile with -mno-reference-types
 detail wmod check < H 01 04 01 60 00 00 03 02 01 00 0A 07 01 05 00 25 00 1A 0B = byte 0x25 at 0x17, function 0 (code section): an access to a table (reference-types); compile with -mno-reference-types
 detail wmod check < H 01 04 01 60 00 00 03 02 01 00 0A 07 01 05 00 1C 01 7F 0B = byte 0x1c at 0x17, function 0 (code section): a select with its type (reference-types); compile with -mno-reference-types
 detail wmod check < H 01 05 01 60 01 70 00 = byte 0x70 at 0xd, type 0 (type section): a reference type (reference-types); compile with -mno-reference-types
@@ -40,12 +40,12 @@ detail wmod check < H 01 04 01 60 00 00 03 02 01 00 05 03 01 00 01 0A 07 01 05 0
 detail wmod check < H 05 05 02 00 00 00 00 = byte 0x00 at 0xe, memory 1 (memory section): a second memory (multimemory); compile with -mno-multimemory
 detail wmod check < H 02 0B 02 00 00 02 00 00 00 00 02 00 00 = byte 0x00 at 0x14, import 1 (import section): a second table or memory (reference-types, multimemory); compile with -mcpu=mvp
 detail wmod check < H 01 04 01 60 00 00 03 02 01 00 0A 06 01 04 00 14 00 0B = byte 0x14 at 0x17, function 0 (code section): a call of a function reference (function-references); compile to WebAssembly 1.0
-detail wmod check < H 01 04 01 60 00 00 03 02 01 00 0A 05 01 03 00 D4 0B = byte 0xd4 at 0x17, function 0 (code section): an instruction on references (function-references); compile to WebAssembly 1.0
+detail wmod check < H 01 04 01 60 00 00 03 02 01 00 0a 05 01 03 00 d4 0b = byte 0xd4 at 0x17, function 0 (code section): an instruction on references (function-references); compile to WebAssembly 1.0
 detail wmod check < H 01 06 01 60 01 63 00 00 = byte 0x63 at 0xd, type 0 (type section): a typed reference (function-references); compile to WebAssembly 1.0
 detail wmod check < H 04 05 01 64 00 00 00 = byte 0x64 at 0xb, table 0 (table section): a typed reference (function-references); compile to WebAssembly 1.0
 detail wmod check < H 04 05 01 40 00 70 00 = byte 0x40 at 0xb, table 0 (table section): a table with an initial value (function-references); compile to WebAssembly 1.0
 detail wmod check < H 01 04 01 60 00 00 03 02 01 00 0A 06 01 04 00 FB 00 0B = byte 0xfb at 0x17, function 0 (code section): an instruction on structs and arrays (gc); compile to WebAssembly 1.0
-detail wmod check < H 01 04 01 60 00 00 03 02 01 00 0A 05 01 03 00 D3 0B = byte 0xd3 at 0x17, function 0 (code section): a comparison of references (gc); compile to WebAssembly 1.0
+detail wmod check < H 01 04 01 60 00 00 03 02 01 00 0a 05 01 03 00 d3 0b = byte 0xd3 at 0x17, function 0 (code section): a comparison of references (gc); compile to WebAssembly 1.0
 detail wmod check < H 01 03 01 4E 00 = byte 0x4e at 0xb, type 0 (type section): a recursive type or a subtype (gc); compile to WebAssembly 1.0
 detail wmod check < H 01 03 01 5F 00 = byte 0x5f at 0xb, type 0 (type section): an array type or a struct type (gc); compile to WebAssembly 1.0
 detail wmod check < H 01 05 01 60 01 6E 00 = byte 0x6e at 0xd, type 0 (type section): a reference type (gc); compile to WebAssembly 1.0

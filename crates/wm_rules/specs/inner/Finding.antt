@@ -1,4 +1,4 @@
--- What is known of the byte at which an input was refused.
+-- The byte at which an input was refused, and its place.
 use Rattle.std.specs.Prelude.{◌≡◌, ◌≢◌, ◌-◌, ◌⊎◌, ℕ, List, Option, None, Some, IfSome, Result, Ok, Err, slice_get, take}
 use Rattle.wm_syntax.specs.declared.profile.Profile.{Profile}
 use Rattle.wm_syntax.specs.declared.why.Why.TheVariants as why
