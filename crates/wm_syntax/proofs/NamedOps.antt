@@ -1,5 +1,5 @@
 -- The class that a word names, by the table of instructions.
-use Rattle.std.proofs.Common.{◌≡◌, ℕ, suc, slice_get, ◌⊎◌, Bool, true, false, cond, List, [], ◌∷◌, Option, Some, None as Nothing, refl, sym, ap, subst, ◌∙◌, inl, inr}
+use Rattle.std.proofs.Common.{◌≡◌, ◌≤◌, ℕ, suc, slice_get, ◌⊎◌, Bool, true, false, cond, List, [], ◌∷◌, Option, Some, None as Nothing, refl, sym, ap, subst, ◌∙◌, inl, inr}
 use Rattle.std.specs.Prelude.{codes, slice_index_or}
 use Rattle.wm_syntax.specs.declared.instructions.IntType.TheVariants.{I32, I64}
 use Rattle.wm_syntax.specs.declared.instructions.FloatType.TheVariants as float
@@ -14,20 +14,22 @@ use Rattle.wm_syntax.specs.declared.instructions.Simple.TheVariants as s
 use Rattle.wm_syntax.specs.declared.instructions.Comparison.TheVariants.{Eq}
 use Rattle.wm_syntax.specs.declared.instructions.UnaryOp.TheVariants.{Clz}
 use Rattle.wm_syntax.specs.declared.instructions.BinaryOp.TheVariants.{Add}
-use Rattle.wm_syntax.specs.declared.instructions.Numeric.TheVariants.{Test, Compare, Unary, Binary, FloatCompare, FloatUnary, FloatBinary, Convert, SignExtend}
+use Rattle.wm_syntax.specs.declared.instructions.Numeric.TheVariants.{Test, Compare, Unary, Binary, FloatCompare, FloatUnary, FloatBinary, Convert, SignExtend, Saturate}
 use Rattle.wm_syntax.specs.declared.instructions.SignExtension.TheVariants.{I32From8}
+use Rattle.wm_syntax.specs.declared.instructions.Saturation.TheVariants as sat
 use Rattle.wm_syntax.specs.declared.instructions.LoadOp.TheVariants.{I32Load}
 use Rattle.wm_syntax.specs.declared.instructions.StoreOp.TheVariants.{I32Store}
 use Rattle.wm_syntax.specs.declared.instructions.op_class.OpClass.{OpClass}
 use Rattle.wm_syntax.specs.declared.instructions.op_class.OpClass.TheVariants.{None}
 use Rattle.wm_syntax.specs.declared.profile.Profile.{Profile}
 use Rattle.wm_syntax.specs.Opcodes.{opcode}
-use Rattle.wm_syntax.specs.OpClasses.{class_of, first_byte, IsClassOfOp}
+use Rattle.wm_syntax.specs.OpClasses.{class_of, code, IsClassOfOp}
 use Rattle.wm_syntax.proofs.OpTable.{begins_in, has_class, is_kept, kept_class}
 use Rattle.wm_syntax.specs.exact.ByteTable.{classes, class_in}
 use Rattle.wm_syntax.specs.Profiles.{IsOpOf}
 use Rattle.std.specs.Str.{bytes_eq}
 use Rattle.std.proofs.lemmas.Slice.Eq.{bytes_eq-Decides}
+use Rattle.std.proofs.lemmas.List.{get_or_past}
 use Rattle.wm_syntax.specs.OpNames.{op_name}
 use Rattle.wm_syntax.specs.exact.NameTable.{names, class_name, has_name, first_named, class_named}
 
@@ -77,6 +79,8 @@ named_simple (s.Numeric (Convert cv.I32TruncF32S)) = refl
 named_simple (s.Numeric (Convert _)) = refl
 named_simple (s.Numeric (SignExtend I32From8)) = refl
 named_simple (s.Numeric (SignExtend _)) = refl
+named_simple (s.Numeric (Saturate sat.I32TruncSatF32S)) = refl
+named_simple (s.Numeric (Saturate _)) = refl
 named_simple (s.Numeric _) = refl
 named_simple (s.Load I32Load at) = refl
 named_simple (s.Load _ at) = refl
@@ -163,6 +167,8 @@ name_simple (s.Numeric (Convert cv.I32TruncF32S)) = refl
 name_simple (s.Numeric (Convert _)) = refl
 name_simple (s.Numeric (SignExtend I32From8)) = refl
 name_simple (s.Numeric (SignExtend _)) = refl
+name_simple (s.Numeric (Saturate sat.I32TruncSatF32S)) = refl
+name_simple (s.Numeric (Saturate _)) = refl
 name_simple (s.Numeric _) = refl
 name_simple (s.Load I32Load at) = refl
 name_simple (s.Load _ at) = refl
@@ -176,7 +182,7 @@ there n b w e h = ap Some (sym e ∙ ap (λ (x : ℕ). slice_index_or names x []
     same_byte : (x y : ℕ) → ◌≡◌ {A = Option ℕ} (Some x) (Some y) → x ≡ y
     same_byte x y h = cc
 
-pub name_there : (b : ℕ) (o : Op) → first_byte o ≡ Some b → op_name o ≡ Some (slice_index_or names b [])
+pub name_there : (b : ℕ) (o : Op) → code o ≡ Some b → op_name o ≡ Some (slice_index_or names b [])
 name_there b (op.Simple i) h = there (opcode i).0 b (opcode i).1 (name_simple i) h
 name_there b (op.Block t) h = there 0x02 b (codes "block") refl h
 name_there b (op.Loop t) h = there 0x03 b (codes "loop") refl h
@@ -185,6 +191,10 @@ name_there b op.Else h = there 0x05 b (codes "else") refl h
 name_there b op.End h = there 0x0B b (codes "end") refl h
 name_there b (op.BrTable n) h = there 0x0E b (codes "br_table") refl h
 name_there b (op.Label l) h = cc
+
+-- past the table there is no name
+pub name_past : (n : ℕ) → 0x10C ≤ n → slice_index_or names n [] ≡ []
+name_past n l = get_or_past names n [] l
 
 -- The clauses of the answer.
 pub named_says : (p : Profile) (w : List ℕ) (c : OpClass) → c ≡ class_named p w

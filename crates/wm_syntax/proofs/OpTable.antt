@@ -1,5 +1,5 @@
--- The table of bytes and the table of instructions agree.
-use Rattle.std.proofs.Common.{◌≡◌, ◌↔◌, IsTrue, ℕ, zero, suc, ◌+◌, Bool, true, false, ◌&&◌, ◌==◌, not, List, [], ◌∷◌, Option, Some, slice_get, refl, sym, ap, ◌∙◌, subst, add-zero, arith}
+-- The table of codes and the table of instructions agree.
+use Rattle.std.proofs.Common.{◌≡◌, ◌⊎◌, ◌↔◌, inl, inr, IsTrue, ℕ, zero, suc, ◌+◌, Bool, true, false, ◌&&◌, ◌||◌, ◌==◌, ◌<◌, ◌≤◌, nat_lt, not, List, [], ◌∷◌, Option, Some, slice_get, refl, sym, ap, ◌∙◌, subst, add-zero, arith}
 use Rattle.std.specs.Prelude.{None as Nothing, pos, if◌then◌else◌}
 use Rattle.std.specs.List.{list_all, enumerate_from}
 use Rattle.wm_syntax.specs.declared.instructions.Op.{Op}
@@ -10,11 +10,11 @@ use Rattle.wm_syntax.specs.declared.instructions.op_class.Immediates.TheVariants
 use Rattle.wm_syntax.specs.declared.instructions.op_class.OpClass.{OpClass}
 use Rattle.wm_syntax.specs.declared.instructions.op_class.OpClass.TheVariants.{Plain, With, Float, None}
 use Rattle.wm_syntax.specs.Opcodes.{opcode}
-use Rattle.wm_syntax.specs.OpClasses.{class_of, first_byte, is_float, IsClassOfOp}
+use Rattle.wm_syntax.specs.OpClasses.{class_of, code, is_float, IsClassOfOp}
 use Rattle.wm_syntax.specs.exact.ByteTable.{classes, class_feature, class_in, left_out}
 use Rattle.wm_syntax.specs.Profiles.{IsOpOf, feature_of, has}
 use Rattle.wm_syntax.specs.declared.profile.Feature.{Feature}
-use Rattle.wm_syntax.specs.declared.profile.Feature.TheVariants.{Base, Floats, SignExtension}
+use Rattle.wm_syntax.specs.declared.profile.Feature.TheVariants.{Base, Floats, SignExtension, LongIndex, Saturation, Copies}
 use Rattle.wm_syntax.specs.declared.profile.Profile.{Profile}
 use Rattle.wm_syntax.specs.declared.instructions.IntType.TheVariants.{I32, I64}
 use Rattle.wm_syntax.specs.declared.instructions.FloatType.TheVariants as float
@@ -26,11 +26,15 @@ use Rattle.wm_syntax.specs.declared.instructions.Simple.{Simple}
 use Rattle.wm_syntax.specs.declared.instructions.Comparison.TheVariants.{Eq}
 use Rattle.wm_syntax.specs.declared.instructions.UnaryOp.TheVariants.{Clz}
 use Rattle.wm_syntax.specs.declared.instructions.BinaryOp.TheVariants.{Add}
-use Rattle.wm_syntax.specs.declared.instructions.Numeric.TheVariants.{Test, Compare, Unary, Binary, FloatCompare, FloatUnary, FloatBinary, Convert, SignExtend}
+use Rattle.wm_syntax.specs.declared.instructions.Numeric.TheVariants.{Test, Compare, Unary, Binary, FloatCompare, FloatUnary, FloatBinary, Convert, SignExtend, Saturate}
 use Rattle.wm_syntax.specs.declared.instructions.SignExtension.TheVariants.{I32From8}
+use Rattle.wm_syntax.specs.declared.instructions.Saturation.TheVariants as sat
 use Rattle.wm_syntax.specs.declared.instructions.LoadOp.TheVariants.{I32Load, F32Load, F64Load}
 use Rattle.wm_syntax.specs.declared.instructions.StoreOp.TheVariants.{I32Store, F32Store, F64Store}
 use Rattle.std.proofs.lemmas.Bool.Decides.{nat_tests}
+use Rattle.std.proofs.lemmas.Bool.{eqb-true, ltb-false, ltb-true}
+use Rattle.std.proofs.lemmas.Option.{slice_get_within}
+use Rattle.wm_syntax.specs.Lengths.{code_len}
 
 some_injective : {X : Type 0} {x y : X} → Some x ≡ Some y → x ≡ y
 some_injective e = cc
@@ -72,6 +76,8 @@ found_simple (s.Numeric (Convert cv.I32TruncF32S)) = refl
 found_simple (s.Numeric (Convert _)) = refl
 found_simple (s.Numeric (SignExtend I32From8)) = refl
 found_simple (s.Numeric (SignExtend _)) = refl
+found_simple (s.Numeric (Saturate sat.I32TruncSatF32S)) = refl
+found_simple (s.Numeric (Saturate _)) = refl
 found_simple (s.Numeric _) = refl
 found_simple (s.Load I32Load at) = refl
 found_simple (s.Load _ at) = refl
@@ -91,7 +97,7 @@ tested t (x ∷ xs) n (suc i) c all e =
 same_place : (n byte : ℕ) (c d : OpClass) → slice_get classes byte ≡ Some c → slice_get classes n ≡ Some d → Some n ≡ Some byte → c ≡ d
 same_place n byte c d e at f = some_injective (sym e ∙ ap (λ (m : ℕ). slice_get classes m) (sym (some_injective f)) ∙ at)
 
-pub found_op : (byte : ℕ) (c : OpClass) → slice_get classes byte ≡ Some c → (o : Op) → first_byte o ≡ Some byte → c ≡ class_of o
+pub found_op : (byte : ℕ) (c : OpClass) → slice_get classes byte ≡ Some c → (o : Op) → code o ≡ Some byte → c ≡ class_of o
 found_op byte c e (op.Simple i) f = same_place _ byte c _ e (found_simple i) f
 found_op byte c e (op.Block t) f = same_place 0x02 byte c _ e refl f
 found_op byte c e (op.Loop t) f = same_place 0x03 byte c _ e refl f
@@ -100,6 +106,98 @@ found_op byte c e op.Else f = same_place 0x05 byte c _ e refl f
 found_op byte c e op.End f = same_place 0x0B byte c _ e refl f
 found_op byte c e (op.BrTable n) f = same_place 0x0E byte c _ e refl f
 found_op byte c e (op.Label l) f = cc
+
+-- behind the prefix there are instructions of two features only
+pub is_behind : Feature → Bool
+is_behind Saturation = true
+is_behind Copies = true
+is_behind _ = false
+
+pub behind_features : (f : Feature) → is_behind f ≡ true → (f ≡ Saturation) ⊎ (f ≡ Copies)
+unfolding is_behind
+behind_features Saturation e = inl refl
+behind_features Copies e = inr refl
+behind_features Base e = cc
+behind_features Floats e = cc
+behind_features SignExtension e = cc
+behind_features LongIndex e = cc
+
+is_no_op : OpClass → Bool
+is_no_op None = true
+is_no_op _ = false
+
+behind : list_all (λ (e : ℕ × OpClass). nat_lt e.0 0x100 || (is_no_op e.1 || is_behind (class_feature e.1))) (enumerate_from 0 classes) ≡ true
+unfolding is_behind is_no_op
+behind = refl
+
+some_op : (o : Op) → is_no_op (class_of o) ≡ false
+unfolding is_no_op
+some_op (op.Simple (s.Br l)) = refl
+some_op (op.Simple _) = refl
+some_op _ = refl
+
+pub behind_at : (x : ℕ) (o : Op) → slice_get classes x ≡ Some (class_of o) → 0x100 ≤ x → is_behind (class_feature (class_of o)) ≡ true
+behind_at x o e l = by (nat_lt x 0x100) refl (subst (λ (m : ℕ). (nat_lt m 0x100 || (is_no_op c || is_behind (class_feature c))) ≡ true) (let q : 0 + x ≡ x = omega arith in q) t)
+  where
+    c : OpClass
+    c = class_of o
+
+    t : (nat_lt (0 + x) 0x100 || (is_no_op c || is_behind (class_feature c))) ≡ true
+    t = tested (λ n c. nat_lt n 0x100 || (is_no_op c || is_behind (class_feature c))) classes 0 x c behind e
+
+    by : (b : Bool) → nat_lt x 0x100 ≡ b → (b || (is_no_op c || is_behind (class_feature c))) ≡ true → is_behind (class_feature c) ≡ true
+    by true f h = absurd (omega (arith, l, ltb-true x 0x100 f))
+    by false f h = subst (λ (b : Bool). (b || is_behind (class_feature c)) ≡ true) (some_op o) h
+
+-- the length of the code, by the class
+kind_len : Immediates → ℕ
+kind_len k.MemoryCopy = 2
+kind_len k.MemoryFill = 2
+kind_len _ = 1
+
+class_len : OpClass → ℕ
+class_len (Plain (op.Simple i)) = code_len i
+class_len (With kind) = kind_len kind
+class_len _ = 1
+
+same_len : (i : Simple) → class_len (class_of (op.Simple i)) ≡ code_len i
+unfolding class_len kind_len
+same_len (s.Br l) = refl
+same_len _ = refl
+
+has_len : ℕ → OpClass → Bool
+has_len n c = is_no_op c || (class_len c == (if nat_lt n 0x100 then 1 else 2))
+
+all_have_len : list_all (λ (e : ℕ × OpClass). has_len e.0 e.1) (enumerate_from 0 classes) ≡ true
+unfolding has_len class_len kind_len is_no_op
+all_have_len = refl
+
+pub code_length : (i : Simple) → code_len i ≡ (if nat_lt (opcode i).0 0x100 then 1 else 2)
+unfolding has_len
+code_length i =
+    let n : ℕ = (opcode i).0 in
+    let c : OpClass = class_of (op.Simple i) in
+    let zero : 0 + n ≡ n = omega arith in
+    let t = subst (λ (m : ℕ). has_len m c ≡ true) zero (tested has_len classes 0 n c all_have_len (found_simple i)) in
+    let e = subst (λ (b : Bool). (b || (class_len c == (if nat_lt n 0x100 then 1 else 2))) ≡ true) (some_op (op.Simple i)) t in
+    sym (same_len i) ∙ eqb-true (class_len c) (if nat_lt n 0x100 then 1 else 2) e
+
+pub byte_code : (i : Simple) → code_len i ≡ 1 → (opcode i).0 < 0x100
+byte_code i e = by (nat_lt (opcode i).0 0x100) refl (sym (code_length i) ∙ e)
+  where
+    by : (b : Bool) → nat_lt (opcode i).0 0x100 ≡ b → ◌≡◌ {A = ℕ} (if b then 1 else 2) 1 → (opcode i).0 < 0x100
+    by true f h = ltb-true (opcode i).0 0x100 f
+    by false f h = absurd (omega (arith, h))
+
+pub long_code : (i : Simple) → code_len i ≡ 2 → 0x100 ≤ (opcode i).0
+long_code i e = by (nat_lt (opcode i).0 0x100) refl (sym (code_length i) ∙ e)
+  where
+    by : (b : Bool) → nat_lt (opcode i).0 0x100 ≡ b → ◌≡◌ {A = ℕ} (if b then 1 else 2) 2 → 0x100 ≤ (opcode i).0
+    by true f h = absurd (omega (arith, h))
+    by false f h = ltb-false (opcode i).0 0x100 f
+
+pub small_code : (i : Simple) → (opcode i).0 < 0x10C
+small_code i = slice_get_within classes (opcode i).0 (class_of (op.Simple i)) (found_simple i)
 
 -- the bytes of floating-point instructions are those of the table
 is_floats : Feature → Bool
@@ -129,6 +227,9 @@ unfolding is_floats
 floats_feature Base e = cc
 floats_feature Floats e = refl
 floats_feature SignExtension e = cc
+floats_feature LongIndex e = cc
+floats_feature Saturation e = cc
+floats_feature Copies e = cc
 
 -- No row of the table is Float, which is the answer of a profile without floats.
 is_no_float : OpClass → Bool
@@ -163,6 +264,8 @@ sample (With k.GlobalGet) = op.Simple (s.GlobalGet 0)
 sample (With k.GlobalSet) = op.Simple (s.GlobalSet 0)
 sample (With k.MemorySize) = op.Simple s.MemorySize
 sample (With k.MemoryGrow) = op.Simple s.MemoryGrow
+sample (With k.MemoryCopy) = op.Simple s.MemoryCopy
+sample (With k.MemoryFill) = op.Simple s.MemoryFill
 sample (With k.I32Const) = op.Simple (s.I32Const (pos 0))
 sample (With k.I64Const) = op.Simple (s.I64Const (pos 0))
 sample (With k.F32Const) = op.Simple (s.F32Const 0)
@@ -181,8 +284,8 @@ is_plain_class (Plain o) = true
 is_plain_class _ = false
 
 begins : ℕ → OpClass → Bool
-begins n (Plain o) = is_at (first_byte o) n && is_plain_class (class_of o)
-begins n (With kind) = is_at (first_byte (sample (With kind))) n
+begins n (Plain o) = is_at (code o) n && is_plain_class (class_of o)
+begins n (With kind) = is_at (code (sample (With kind))) n
 begins n _ = true
 
 all_begin : list_all (λ (e : ℕ × OpClass). begins e.0 e.1) (enumerate_from 0 classes) ≡ true
@@ -215,13 +318,13 @@ plain_class (op.Label l) e = refl
 plain_class _ e = cc
 
 -- The sample op of a class begins with the byte of the class.
-sample_begins : (byte : ℕ) (c : OpClass) → slice_get classes byte ≡ Some c → IsClassOfOp c → (first_byte (sample c) ≡ Some byte) × (class_of (sample c) ≡ c)
+sample_begins : (byte : ℕ) (c : OpClass) → slice_get classes byte ≡ Some c → IsClassOfOp c → (code (sample c) ≡ Some byte) × (class_of (sample c) ≡ c)
 unfolding begins sample
 sample_begins byte c e i = go c i (subst (λ (m : ℕ). begins m c ≡ true) (let q : 0 + byte ≡ byte = omega arith in q) (tested begins classes 0 byte c all_begin e))
   where
-    go : (c : OpClass) → IsClassOfOp c → begins byte c ≡ true → (first_byte (sample c) ≡ Some byte) × (class_of (sample c) ≡ c)
-    go (Plain o) i t = (is_at_means (first_byte o) byte (both (is_at (first_byte o) byte) _ t).0, plain_class o (both (is_at (first_byte o) byte) _ t).1)
-    go (With kind) i t = (is_at_means (first_byte (sample (With kind))) byte t, with_class kind)
+    go : (c : OpClass) → IsClassOfOp c → begins byte c ≡ true → (code (sample c) ≡ Some byte) × (class_of (sample c) ≡ c)
+    go (Plain o) i t = (is_at_means (code o) byte (both (is_at (code o) byte) _ t).0, plain_class o (both (is_at (code o) byte) _ t).1)
+    go (With kind) i t = (is_at_means (code (sample (With kind))) byte t, with_class kind)
     go Float i t = absurd i
     go None i t = absurd i
 
@@ -259,6 +362,8 @@ sample_has p (With k.If) e h = tt
 sample_has p (With k.BrTable) e h = tt
 sample_has p (With k.F32Const) e h = h
 sample_has p (With k.F64Const) e h = h
+sample_has p (With k.MemoryCopy) e h = h
+sample_has p (With k.MemoryFill) e h = h
 sample_has p (With (k.Load F32Load)) e h = h
 sample_has p (With (k.Load F64Load)) e h = h
 sample_has p (With (k.Load _)) e h = refl
@@ -277,18 +382,27 @@ no_left_out : (f : Feature) → IsClassOfOp (left_out f) → ⊥
 no_left_out Base h = h
 no_left_out Floats h = h
 no_left_out SignExtension h = h
+no_left_out LongIndex h = h
+no_left_out Saturation h = h
+no_left_out Copies h = h
 
 left_out_float : (f : Feature) → is_floats f ≡ true → left_out f ≡ Float
 unfolding is_floats
 left_out_float Base e = cc
 left_out_float Floats e = refl
 left_out_float SignExtension e = cc
+left_out_float LongIndex e = cc
+left_out_float Saturation e = cc
+left_out_float Copies e = cc
 
 float_left_out : (f : Feature) → left_out f ≡ Float → is_floats f ≡ true
 unfolding is_floats
 float_left_out Base e = cc
 float_left_out Floats e = refl
 float_left_out SignExtension e = cc
+float_left_out LongIndex e = cc
+float_left_out Saturation e = cc
+float_left_out Copies e = cc
 
 -- A class under a profile is the class itself, or the answer for a missing feature.
 module _ (c : OpClass) where
@@ -308,15 +422,15 @@ module _ (c : OpClass) where
 pub is_kept : (p : Profile) (c : OpClass) → IsClassOfOp (class_in p c) → IsTrue (has p (class_feature c))
 is_kept p c h = left_true c (has p (class_feature c)) h
 
-pub found_in : (p : Profile) (byte : ℕ) (c : OpClass) → slice_get classes byte ≡ Some c → (o : Op) → first_byte o ≡ Some byte → IsOpOf p o → class_in p c ≡ class_of o
+pub found_in : (p : Profile) (byte : ℕ) (c : OpClass) → slice_get classes byte ≡ Some c → (o : Op) → code o ≡ Some byte → IsOpOf p o → class_in p c ≡ class_of o
 found_in p byte c e o f i = ap (class_in p) (found_op byte c e o f) ∙ kept_class p (class_of o) (has_class p o i)
 
 pub begins_in : (p : Profile) (byte : ℕ) (c : OpClass) → slice_get classes byte ≡ Some c → IsClassOfOp (class_in p c)
-    → (o : Op) × (first_byte o ≡ Some byte) × IsOpOf p o × (class_of o ≡ class_in p c)
+    → (o : Op) × (code o ≡ Some byte) × IsOpOf p o × (class_of o ≡ class_in p c)
 begins_in p byte c e f =
     let h : IsTrue (has p (class_feature c)) = is_kept p c f in
     let same : class_in p c ≡ c = kept_class p c h in
-    let found : (first_byte (sample c) ≡ Some byte) × (class_of (sample c) ≡ c) = sample_begins byte c e (subst IsClassOfOp same f) in
+    let found : (code (sample c) ≡ Some byte) × (class_of (sample c) ≡ c) = sample_begins byte c e (subst IsClassOfOp same f) in
     (sample c, found.0, sample_has p c found.1 h, found.1 ∙ sym same)
 
 -- If the profile has no floats, exactly the bytes of float instructions have the answer Float.

@@ -1,8 +1,7 @@
 -- Profiles: their types, ops and instructions.
 use Rattle.std.proofs.Common.{◌≡◌, false, true, IsTrue, ℕ, List, [], ◌∷◌, ◌++◌, ◌↔◌, Option, None, Some, map, inl, inr, refl, subst}
 use Rattle.std.specs.List.{AllByRecursion}
-use Rattle.wm_syntax.specs.declared.profile.Feature.{Feature}
-use Rattle.wm_syntax.specs.declared.profile.Feature.TheVariants.{Base, Floats, SignExtension}
+use Rattle.wm_syntax.specs.declared.profile.Feature.TheVariants.{Base, Floats, SignExtension, LongIndex, Saturation, Copies}
 use Rattle.wm_syntax.specs.declared.profile.Profile.{Profile}
 use Rattle.wm_syntax.specs.declared.instructions.Op.{Op}
 use Rattle.wm_syntax.specs.declared.instructions.Op.TheVariants as op
@@ -11,8 +10,14 @@ use Rattle.wm_syntax.specs.declared.modules.ImportDesc.{ImportDesc}
 use Rattle.wm_syntax.specs.declared.modules.ImportDesc.TheVariants.{Global}
 use Rattle.wm_syntax.specs.declared.types.Const.{Const}
 use Rattle.wm_syntax.specs.declared.types.ValType.{ValType}
+use Rattle.wm_syntax.specs.declared.types.ValType.TheVariants.{I32, I64, F32, F64}
+use Rattle.wm_syntax.specs.declared.instructions.Simple.{Simple}
+use Rattle.wm_syntax.specs.declared.instructions.Simple.TheVariants.{F32Const, F64Const, Load, MemoryCopy, MemoryFill, Store, Numeric}
+use Rattle.wm_syntax.specs.declared.instructions.Numeric.TheVariants.{FloatCompare, FloatUnary, FloatBinary, Convert, Saturate, SignExtend}
+use Rattle.wm_syntax.specs.declared.instructions.LoadOp.TheVariants.{F32Load, F64Load}
+use Rattle.wm_syntax.specs.declared.instructions.StoreOp.TheVariants.{F32Store, F64Store}
 use Rattle.wm_syntax.specs.Modules.{Element, Function, GlobalDef, Import, Module, Segment, constant}
-use Rattle.wm_syntax.specs.Profiles.{Extends, HasBlockType, HasConst, HasDesc, HasFunction, HasGlobal, HasInstruction, HasInstructions, HasSignature, HasType, IsOf, IsOpOf, feature_of, four, has, one, type_feature}
+use Rattle.wm_syntax.specs.Profiles.{Extends, HasBlockType, HasConst, HasDesc, HasFunction, HasGlobal, HasInstruction, HasInstructions, HasSignature, HasType, IsOf, IsOpOf, every, feature_of, four, has, one, three, two, type_feature}
 use Rattle.wm_syntax.specs.Types.{Signature}
 
 -- A property of each member of a list, and another that follows from it.
@@ -82,58 +87,100 @@ pub extends_one : (q : Profile) → Extends q one
 extends_one q Base h = refl
 extends_one q Floats h = let e : false ≡ true = h in cc
 extends_one q SignExtension h = let e : false ≡ true = h in cc
+extends_one q LongIndex h = let e : false ≡ true = h in cc
+extends_one q Saturation h = let e : false ≡ true = h in cc
+extends_one q Copies h = let e : false ≡ true = h in cc
 
--- The fourth profile has every feature, so everything belongs to it.
-pub four_has : (f : Feature) → IsTrue (has four f)
-four_has Base = refl
-four_has Floats = refl
-four_has SignExtension = refl
+pub every_extends : (p : Profile) → Extends every p
+every_extends p Base h = refl
+every_extends p Floats h = refl
+every_extends p SignExtension h = refl
+every_extends p LongIndex h = refl
+every_extends p Saturation h = refl
+every_extends p Copies h = refl
 
-pub four_extends : (p : Profile) → Extends four p
-four_extends p f h = four_has f
+pub four_extends_two : Extends four two
+four_extends_two Base h = refl
+four_extends_two Floats h = refl
+four_extends_two SignExtension h = refl
+four_extends_two LongIndex h = h
+four_extends_two Saturation h = h
+four_extends_two Copies h = h
+
+pub four_extends_three : Extends four three
+four_extends_three Base h = refl
+four_extends_three Floats h = refl
+four_extends_three SignExtension h = refl
+four_extends_three LongIndex h = h
+four_extends_three Saturation h = h
+four_extends_three Copies h = h
+
+-- The profile `every` has the feature of every instruction and of every type, so everything belongs to it.
+every_has_type : (t : ValType) → IsTrue (has every (type_feature t))
+every_has_type I32 = refl
+every_has_type I64 = refl
+every_has_type F32 = refl
+every_has_type F64 = refl
+
+pub every_has_simple : (i : Simple) → IsTrue (has every (feature_of i))
+every_has_simple (F32Const n) = refl
+every_has_simple (F64Const n) = refl
+every_has_simple (Load F32Load at) = refl
+every_has_simple (Load F64Load at) = refl
+every_has_simple (Store F32Store at) = refl
+every_has_simple (Store F64Store at) = refl
+every_has_simple (Numeric (FloatCompare t op)) = refl
+every_has_simple (Numeric (FloatUnary t op)) = refl
+every_has_simple (Numeric (FloatBinary t op)) = refl
+every_has_simple (Numeric (Convert op)) = refl
+every_has_simple (Numeric (SignExtend op)) = refl
+every_has_simple (Numeric (Saturate op)) = refl
+every_has_simple MemoryCopy = refl
+every_has_simple MemoryFill = refl
+every_has_simple _ = refl
 
 module _ {X : Type 0} (P : X → Type 0) (each : (x : X) → P x) where
   all_of_each : (xs : List X) → AllByRecursion P xs
   all_of_each [] = tt
   all_of_each (x ∷ xs) = (each x, all_of_each xs)
 
-type_of_four : (t : ValType) → HasType four t
-type_of_four t = four_has (type_feature t)
+type_of_every : (t : ValType) → HasType every t
+type_of_every t = every_has_type t
 
-block_type_of_four : (t : Option ValType) → HasBlockType four t
-block_type_of_four None = tt
-block_type_of_four (Some t) = type_of_four t
+block_type_of_every : (t : Option ValType) → HasBlockType every t
+block_type_of_every None = tt
+block_type_of_every (Some t) = type_of_every t
 
-const_of_four : (c : Const) → HasConst four c
-const_of_four c = four_has (feature_of (constant c))
+const_of_every : (c : Const) → HasConst every c
+const_of_every c = every_has_simple (constant c)
 
 mutual
-  instruction_of_four : (i : Instruction) → HasInstruction four i
-  instruction_of_four (simple i) = four_has (feature_of i)
-  instruction_of_four (table labels default) = tt
-  instruction_of_four (block t body) = (block_type_of_four t, instructions_of_four body)
-  instruction_of_four (loop t body) = (block_type_of_four t, instructions_of_four body)
-  instruction_of_four (choice t first second) = (block_type_of_four t, instructions_of_four first, instructions_of_four second)
+  instruction_of_every : (i : Instruction) → HasInstruction every i
+  instruction_of_every (simple i) = every_has_simple i
+  instruction_of_every (table labels default) = tt
+  instruction_of_every (block t body) = (block_type_of_every t, instructions_of_every body)
+  instruction_of_every (loop t body) = (block_type_of_every t, instructions_of_every body)
+  instruction_of_every (choice t first second) = (block_type_of_every t, instructions_of_every first, instructions_of_every second)
 
-  instructions_of_four : (s : Instructions) → HasInstructions four s
-  instructions_of_four none = tt
-  instructions_of_four (snoc s i) = (instructions_of_four s, instruction_of_four i)
+  instructions_of_every : (s : Instructions) → HasInstructions every s
+  instructions_of_every none = tt
+  instructions_of_every (snoc s i) = (instructions_of_every s, instruction_of_every i)
 
-desc_of_four : (d : ImportDesc) → HasDesc four d
-desc_of_four (Global g) = type_of_four g.ty
-desc_of_four _ = tt
+desc_of_every : (d : ImportDesc) → HasDesc every d
+desc_of_every (Global g) = type_of_every g.ty
+desc_of_every _ = tt
 
-types_of_four : (ts : List ValType) → AllByRecursion (HasType four) ts
-types_of_four ts = all_of_each (HasType four) type_of_four ts
+types_of_every : (ts : List ValType) → AllByRecursion (HasType every) ts
+types_of_every ts = all_of_each (HasType every) type_of_every ts
 
-pub module_of_four : (m : Module) → IsOf four m
-module_of_four m = record {
-  types = all_of_each (HasSignature four) (λ f. (types_of_four f.params, types_of_four f.results)) m.types;
-  imports = all_of_each (λ (i : Import). HasDesc four i.desc) (λ i. desc_of_four i.desc) m.imports;
-  functions = all_of_each (HasFunction four) (λ f. (types_of_four f.locals, instructions_of_four f.body)) m.functions;
-  globals = all_of_each (HasGlobal four) (λ g. (type_of_four g.ty.ty, const_of_four g.init)) m.globals;
-  elements = all_of_each (λ (e : Element). HasConst four e.offset) (λ e. const_of_four e.offset) m.elements;
-  segments = all_of_each (λ (s : Segment). HasConst four s.offset) (λ s. const_of_four s.offset) m.segments;
+pub module_of_every : (m : Module) → IsOf every m
+module_of_every m = record {
+  types = all_of_each (HasSignature every) (λ f. (types_of_every f.params, types_of_every f.results)) m.types;
+  imports = all_of_each (λ (i : Import). HasDesc every i.desc) (λ i. desc_of_every i.desc) m.imports;
+  functions = all_of_each (HasFunction every) (λ f. (types_of_every f.locals, instructions_of_every f.body)) m.functions;
+  globals = all_of_each (HasGlobal every) (λ g. (type_of_every g.ty.ty, const_of_every g.init)) m.globals;
+  elements = all_of_each (λ (e : Element). HasConst every e.offset) (λ e. const_of_every e.offset) m.elements;
+  segments = all_of_each (λ (s : Segment). HasConst every s.offset) (λ s. const_of_every s.offset) m.segments;
 }
 
 -- A property of each member of a joined list.

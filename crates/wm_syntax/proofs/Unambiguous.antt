@@ -1,5 +1,5 @@
 -- Each encoding belongs to one instruction.
-use Rattle.std.proofs.Common.{◌≡◌, ℕ, List, [], ◌∷◌, ◌++◌, refl, sym, ap, ◌∙◌, append_assoc, Some, slice_get}
+use Rattle.std.proofs.Common.{◌≡◌, ℕ, List, [], ◌∷◌, ◌++◌, refl, sym, ap, ◌∙◌, subst, inl, inr, arith, append_assoc, Some, slice_get}
 use Rattle.std.proofs.lemmas.List.{append_cancel_left}
 use Rattle.wm_syntax.specs.Leb128.{Unsigned}
 use Rattle.wm_syntax.specs.Spelling.{Form, Byte, ◌▸◌}
@@ -7,7 +7,8 @@ use Rattle.wm_syntax.specs.Opcodes.{opcode}
 use Rattle.wm_syntax.specs.OpClasses.{class_of}
 use Rattle.wm_syntax.specs.exact.ByteTable.{classes}
 use Rattle.wm_syntax.proofs.OpTable.{found_simple}
-use Rattle.wm_syntax.specs.Instructions.{SpellsSimple, SpellsImmediates}
+use Rattle.wm_syntax.specs.Encodings.{SpellsSimple, SpellsImmediates, SpellsTable}
+use Rattle.wm_syntax.specs.Profiles.{every}
 use Rattle.wm_syntax.specs.declared.instructions.op_class.OpClass.{OpClass}
 use Rattle.wm_syntax.specs.declared.instructions.MemArg.{MemArg}
 use Rattle.wm_syntax.specs.declared.instructions.Simple.{Simple}
@@ -15,6 +16,7 @@ use Rattle.wm_syntax.specs.declared.instructions.Simple.TheVariants as s
 use Rattle.wm_syntax.specs.declared.instructions.Op.TheVariants as op
 use Rattle.wm_syntax.proofs.Spellings.{same_unsigned, same_signed}
 use Rattle.wm_syntax.proofs.FloatBytes.{same_float}
+use Rattle.wm_syntax.proofs.CodeBytes.{apart_simple, same_code}
 
 -- one form after another, each with its fact
 pub then_same : {A : Type 0} (P Q P' Q' : Form A) (D E : Type 0)
@@ -31,8 +33,16 @@ then_same {A} P Q P' Q' D E one two a b u v (x, y, e, p, q) (x', y', e', p', q')
 pub same_u32 : (n m : ℕ) (a b u v : List ℕ) → Unsigned 32 n a → Unsigned 32 m b → a ++ u ≡ b ++ v → (a ≡ b) × (n ≡ m)
 same_u32 n m = same_unsigned 32 n m
 
-same_zero : (a b u v : List ℕ) → Byte 0x00 a → Byte 0x00 b → a ++ u ≡ b ++ v → (a ≡ b) × Unit {0}
-same_zero a b u v p q h = (p ∙ sym q, tt)
+-- the byte 00 encodes the u32 0
+zero_spelled : Unsigned 32 0 (0 ∷ [])
+zero_spelled = inl (omega arith, omega arith, refl, refl)
+
+table_number : (a : List ℕ) → SpellsTable every a → Unsigned 32 0 a
+table_number a (inl e) = subst (Unsigned 32 0) (sym e) zero_spelled
+table_number a (inr h) = h.1
+
+same_table : (a b u v : List ℕ) → SpellsTable every a → SpellsTable every b → a ++ u ≡ b ++ v → (a ≡ b) × Unit {0}
+same_table a b u v p q h = ((same_u32 0 0 a b u v (table_number a p) (table_number b q) h).0, tt)
 
 same_access : (at at' : MemArg) (a b u v : List ℕ) → (Unsigned 32 at.align ▸ Unsigned 32 at.offset) a → (Unsigned 32 at'.align ▸ Unsigned 32 at'.offset) b → a ++ u ≡ b ++ v → (a ≡ b) × (at ≡ at')
 same_access at at' a b u v p q h =
@@ -43,7 +53,14 @@ same_access at at' a b u v p q h =
     pair : {n m k l : ℕ} → n ≡ m → k ≡ l → ◌≡◌ {A = ℕ × ℕ} (n, k) (m, l)
     pair {n = n} {l = l} p q = ap (λ (x : ℕ). (n, x)) q ∙ ap (λ (x : ℕ). (x, l)) p
 
-same_immediates : (i j : Simple) → class_of (op.Simple i) ≡ class_of (op.Simple j) → (a b u v : List ℕ) → SpellsImmediates i a → SpellsImmediates j b → a ++ u ≡ b ++ v → (a ≡ b) × (i ≡ j)
+-- two bytes 00
+two_zeros : (a : List ℕ) → (Byte 0x00 ▸ Byte 0x00) a → a ≡ 0 ∷ 0 ∷ []
+two_zeros a (x, y, e, p, q) = e ∙ ap (λ (z : List ℕ). z ++ y) p ∙ ap (λ (z : List ℕ). 0 ∷ z) q
+
+two_same : (a b : List ℕ) → (Byte 0x00 ▸ Byte 0x00) a → (Byte 0x00 ▸ Byte 0x00) b → a ≡ b
+two_same a b p q = two_zeros a p ∙ sym (two_zeros b q)
+
+same_immediates : (i j : Simple) → class_of (op.Simple i) ≡ class_of (op.Simple j) → (a b u v : List ℕ) → SpellsImmediates every i a → SpellsImmediates every j b → a ++ u ≡ b ++ v → (a ≡ b) × (i ≡ j)
 same_immediates s.Unreachable s.Unreachable c a b u v p q h = (p ∙ sym q, refl)
 same_immediates s.Unreachable _ c a b u v p q h = cc
 same_immediates s.Nop s.Nop c a b u v p q h = (p ∙ sym q, refl)
@@ -71,12 +88,16 @@ same_immediates (s.GlobalGet x) _ c a b u v p q h = cc
 same_immediates (s.GlobalSet x) (s.GlobalSet y) c a b u v p q h = let r : (a ≡ b) × (x ≡ y) = same_u32 x y a b u v p q h in (r.0, ap s.GlobalSet r.1)
 same_immediates (s.GlobalSet x) _ c a b u v p q h = cc
 same_immediates (s.CallIndirect x) (s.CallIndirect y) c a b u v p q h =
-    let r : (a ≡ b) × (x ≡ y) × Unit {0} = then_same (Unsigned 32 x) (Byte 0) (Unsigned 32 y) (Byte 0) (x ≡ y) (Unit {0}) (λ a b u v p q h. same_u32 x y a b u v p q h) same_zero a b u v p q h in (r.0, ap s.CallIndirect r.1)
+    let r : (a ≡ b) × (x ≡ y) × Unit {0} = then_same (Unsigned 32 x) (SpellsTable every) (Unsigned 32 y) (SpellsTable every) (x ≡ y) (Unit {0}) (λ a b u v p q h. same_u32 x y a b u v p q h) same_table a b u v p q h in (r.0, ap s.CallIndirect r.1)
 same_immediates (s.CallIndirect x) _ c a b u v p q h = cc
 same_immediates s.MemorySize s.MemorySize c a b u v p q h = (p ∙ sym q, refl)
 same_immediates s.MemorySize _ c a b u v p q h = cc
 same_immediates s.MemoryGrow s.MemoryGrow c a b u v p q h = (p ∙ sym q, refl)
 same_immediates s.MemoryGrow _ c a b u v p q h = cc
+same_immediates s.MemoryCopy s.MemoryCopy c a b u v p q h = (two_same a b p q, refl)
+same_immediates s.MemoryCopy _ c a b u v p q h = cc
+same_immediates s.MemoryFill s.MemoryFill c a b u v p q h = (p ∙ sym q, refl)
+same_immediates s.MemoryFill _ c a b u v p q h = cc
 same_immediates (s.I32Const x) (s.I32Const y) c a b u v p q h = let r : (a ≡ b) × (x ≡ y) = same_signed 32 x y a b u v p q h in (r.0, ap s.I32Const r.1)
 same_immediates (s.I32Const x) _ c a b u v p q h = cc
 same_immediates (s.I64Const x) (s.I64Const y) c a b u v p q h = let r : (a ≡ b) × (x ≡ y) = same_signed 64 x y a b u v p q h in (r.0, ap s.I64Const r.1)
@@ -95,21 +116,12 @@ same_immediates (s.Numeric o) _ c a b u v p q h = cc
 some_injective : {x y : OpClass} → Some x ≡ Some y → x ≡ y
 some_injective e = cc
 
--- An encoding belongs to one list of instructions, and is no proper prefix of another.
-pub same_simple : (i j : Simple) (a b u v : List ℕ) → SpellsSimple i a → SpellsSimple j b → a ++ u ≡ b ++ v → (a ≡ b) × (i ≡ j)
+-- An encoding belongs to one instruction, and is no proper prefix of another.
+pub same_simple : (i j : Simple) (a b u v : List ℕ) → SpellsSimple every i a → SpellsSimple every j b → a ++ u ≡ b ++ v → (a ≡ b) × (i ≡ j)
 same_simple i j a b u v (x, y, e, p, q) (x', y', e', p', q') h =
-    let whole : (opcode i).0 ∷ (y ++ u) ≡ (opcode j).0 ∷ (y' ++ v) = sym (front i a x y u e p) ∙ h ∙ front j b x' y' v e' p' in
-    let heads : (opcode i).0 ≡ (opcode j).0 = head_of whole in
-    let rest : y ++ u ≡ y' ++ v = tail_of whole in
-    let same : class_of (op.Simple i) ≡ class_of (op.Simple j) = some_injective (sym (found_simple i) ∙ ap (λ (n : ℕ). slice_get classes n) heads ∙ found_simple j) in
+    let whole : x ++ (y ++ u) ≡ x' ++ (y' ++ v) = sym (append_assoc x y u) ∙ ap (λ (c : List ℕ). c ++ u) (sym e) ∙ h ∙ ap (λ (c : List ℕ). c ++ v) e' ∙ append_assoc x' y' v in
+    let code : (x ≡ x') × ((opcode i).0 ≡ (opcode j).0) = same_code (opcode i).0 (opcode j).0 (apart_simple i) (apart_simple j) x x' (y ++ u) (y' ++ v) p p' whole in
+    let rest : y ++ u ≡ y' ++ v = append_cancel_left x' (y ++ u) (y' ++ v) (ap (λ (c : List ℕ). c ++ (y ++ u)) (sym code.0) ∙ whole) in
+    let same : class_of (op.Simple i) ≡ class_of (op.Simple j) = some_injective (sym (found_simple i) ∙ ap (λ (n : ℕ). slice_get classes n) code.1 ∙ found_simple j) in
     let r : (y ≡ y') × (i ≡ j) = same_immediates i j same y y' u v q q' rest in
-    (e ∙ ap (λ (c : List ℕ). c ++ y) (p ∙ ap (λ (n : ℕ). n ∷ []) heads ∙ sym p') ∙ ap (λ (c : List ℕ). x' ++ c) r.0 ∙ sym e', r.1)
-  where
-    front : (i : Simple) (a x y u : List ℕ) → a ≡ x ++ y → x ≡ (opcode i).0 ∷ [] → a ++ u ≡ (opcode i).0 ∷ (y ++ u)
-    front i a x y u e p = ap (λ (c : List ℕ). c ++ u) (e ∙ ap (λ (c : List ℕ). c ++ y) p)
-
-    head_of : {m n : ℕ} {r t : List ℕ} → m ∷ r ≡ n ∷ t → m ≡ n
-    head_of e = cc
-
-    tail_of : {m n : ℕ} {r t : List ℕ} → m ∷ r ≡ n ∷ t → r ≡ t
-    tail_of e = cc
+    (e ∙ ap (λ (c : List ℕ). c ++ y) code.0 ∙ ap (λ (c : List ℕ). x' ++ c) r.0 ∙ sym e', r.1)

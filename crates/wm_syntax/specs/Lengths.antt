@@ -8,6 +8,8 @@ use Rattle.wm_syntax.specs.declared.instructions.Simple.{Simple}
 use Rattle.wm_syntax.specs.declared.instructions.Simple.TheVariants.{Br, BrIf, Call, CallIndirect, LocalGet}
 use Rattle.wm_syntax.specs.declared.instructions.Simple.TheVariants.{LocalSet, LocalTee, GlobalGet, GlobalSet}
 use Rattle.wm_syntax.specs.declared.instructions.Simple.TheVariants.{MemorySize, MemoryGrow, I32Const}
+use Rattle.wm_syntax.specs.declared.instructions.Simple.TheVariants.{MemoryCopy, MemoryFill, Numeric}
+use Rattle.wm_syntax.specs.declared.instructions.Numeric.TheVariants.{Saturate}
 use Rattle.wm_syntax.specs.declared.instructions.Simple.TheVariants.{I64Const, F32Const, F64Const}
 use Rattle.wm_syntax.specs.declared.instructions.Simple.TheVariants.{Load, Store}
 
@@ -15,7 +17,14 @@ use Rattle.wm_syntax.specs.declared.instructions.Simple.TheVariants.{Load, Store
 abbrev pub index_len : ℕ → ℕ
 index_len n = length (unsigned_bytes 5 n)
 
--- The length of the immediates of an instruction (Core spec 5.4.1 to 5.4.5).
+-- The length of the code of an instruction: two bytes with the prefix FC, else one.
+abbrev pub code_len : Simple → ℕ
+code_len (Numeric (Saturate op)) = 2
+code_len MemoryCopy = 2
+code_len MemoryFill = 2
+code_len _ = 1
+
+-- The length of the immediates of an instruction (Core spec 5.4.1 to 5.4.5, WebAssembly 2.0 5.4.6).
 abbrev pub immediates_len : Simple → ℕ
 immediates_len (Br l) = index_len l
 immediates_len (BrIf l) = index_len l
@@ -28,6 +37,8 @@ immediates_len (GlobalGet x) = index_len x
 immediates_len (GlobalSet x) = index_len x
 immediates_len MemorySize = 1
 immediates_len MemoryGrow = 1
+immediates_len MemoryCopy = 2
+immediates_len MemoryFill = 1
 immediates_len (I32Const n) = length (signed_bytes 5 n)
 immediates_len (I64Const n) = length (signed_bytes 10 n)
 immediates_len (F32Const n) = 4
@@ -36,9 +47,9 @@ immediates_len (Load o at) = index_len at.align + index_len at.offset
 immediates_len (Store o at) = index_len at.align + index_len at.offset
 immediates_len _ = 0
 
--- The length of one op: its first byte, if it has one, and what follows. A block type is one byte.
+-- The length of one op: its code, if it has one, and what follows. A block type is one byte.
 abbrev pub op_len : Op → ℕ
-op_len (op.Simple i) = 1 + immediates_len i
+op_len (op.Simple i) = code_len i + immediates_len i
 op_len (op.Block t) = 2
 op_len (op.Loop t) = 2
 op_len (op.If t) = 2

@@ -1,3 +1,4 @@
+pub mod Encodings
 pub mod Floats
 pub mod Instructions
 pub mod Lengths

@@ -1,5 +1,5 @@
--- The classes of ops, which their first bytes determine (Core spec 5.4).
-use Rattle.std.specs.Prelude.{ℕ, Bool, ◌&&◌, nat_le, Option, [], ◌∷◌}
+-- The classes of ops, which their codes determine (Core spec 5.4).
+use Rattle.std.specs.Prelude.{ℕ, Bool, ◌&&◌, nat_le, List, Option, [], ◌∷◌}
 use Rattle.std.specs.List.{list_any}
 use Rattle.std.specs.Option.{option_map}
 use Rattle.wm_syntax.specs.declared.instructions.Simple.TheVariants as s
@@ -23,6 +23,8 @@ class_of (op.Simple (s.GlobalGet x)) = With k.GlobalGet
 class_of (op.Simple (s.GlobalSet x)) = With k.GlobalSet
 class_of (op.Simple s.MemorySize) = With k.MemorySize
 class_of (op.Simple s.MemoryGrow) = With k.MemoryGrow
+class_of (op.Simple s.MemoryCopy) = With k.MemoryCopy
+class_of (op.Simple s.MemoryFill) = With k.MemoryFill
 class_of (op.Simple (s.I32Const n)) = With k.I32Const
 class_of (op.Simple (s.I64Const n)) = With k.I64Const
 class_of (op.Simple (s.F32Const n)) = With k.F32Const
@@ -35,16 +37,18 @@ class_of (op.If t) = With k.If
 class_of (op.BrTable n) = With k.BrTable
 class_of o = Plain o
 
--- The byte that begins an instruction, an else or an end. A label has none.
-abbrev pub first_byte : Op → Option ℕ
-first_byte o = option_map (λ row. row.0) (op_code o)
+-- The code of an instruction, an else or an end. A label has none.
+abbrev pub code : Op → Option ℕ
+code o = option_map (λ row. row.0) (op_code o)
 
--- Whether a byte begins a floating-point instruction (Core spec 5.4.4, 5.4.5).
+-- The bytes that begin floating-point instructions, as ranges (Core spec 5.4.4, 5.4.5).
+abbrev pub float_codes : List (ℕ × ℕ)
+float_codes =
+    (0x2A, 0x2B) ∷ (0x38, 0x39) ∷ (0x43, 0x44) ∷ (0x5B, 0x66) ∷ (0x8B, 0xA6) ∷ (0xA8, 0xAB) ∷ (0xAE, 0xBF) ∷ []
+
+-- Whether a code is such a byte.
 abbrev pub is_float : ℕ → Bool
-is_float b =
-    list_any (λ (r : ℕ × ℕ). nat_le r.0 b && nat_le b r.1)
-    ((0x2A, 0x2B) ∷ (0x38, 0x39) ∷ (0x43, 0x44) ∷ (0x5B, 0x66) ∷ (0x8B, 0xA6) ∷ (0xA8, 0xAB) ∷ (0xAE, 0xBF)
-    ∷ [])
+is_float b = list_any (λ (r : ℕ × ℕ). nat_le r.0 b && nat_le b r.1) float_codes
 
 -- The class is that of an op: neither `Float` nor `None`.
 abbrev pub IsClassOfOp : OpClass → Type 0

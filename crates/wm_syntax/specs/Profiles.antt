@@ -1,15 +1,18 @@
 -- The instructions and the types of each profile. Each of them belongs to a feature, and a profile is a set of
 -- features. `one` is WebAssembly 1.0 without floats, and `two` also has the five sign-extension instructions.
--- `three` is all of WebAssembly 1.0, and `four` also has the five sign-extension instructions.
-use Rattle.std.specs.Prelude.{Bool, true, false, IsTrue, Option, Some, None}
+-- `three` is all of WebAssembly 1.0, and `four` also has the five sign-extension instructions. No instruction
+-- belongs to `LongIndex`, which adds encodings of `call_indirect`. `Saturation` and `Copies` add instructions of
+-- WebAssembly 2.0.
+use Rattle.std.specs.Prelude.{◌≡◌, ◌≢◌, Bool, true, false, ◌||◌, IsTrue, Option, Some, None}
 use Rattle.std.specs.List.{AllByRecursion}
 use Rattle.wm_syntax.specs.declared.types.Const.{Const}
 use Rattle.wm_syntax.specs.declared.types.ValType.{ValType}
 use Rattle.wm_syntax.specs.declared.types.ValType.TheVariants.{I32, I64, F32, F64}
 use Rattle.wm_syntax.specs.declared.instructions.Simple.{Simple}
 use Rattle.wm_syntax.specs.declared.instructions.Simple.TheVariants.{F32Const, F64Const, Load, Store, Numeric}
+use Rattle.wm_syntax.specs.declared.instructions.Simple.TheVariants.{MemoryCopy, MemoryFill}
 use Rattle.wm_syntax.specs.declared.instructions.Numeric.TheVariants.{FloatCompare, FloatUnary, FloatBinary}
-use Rattle.wm_syntax.specs.declared.instructions.Numeric.TheVariants.{Convert, SignExtend}
+use Rattle.wm_syntax.specs.declared.instructions.Numeric.TheVariants.{Convert, SignExtend, Saturate}
 use Rattle.wm_syntax.specs.declared.instructions.LoadOp.TheVariants.{F32Load, F64Load}
 use Rattle.wm_syntax.specs.declared.instructions.StoreOp.TheVariants.{F32Store, F64Store}
 use Rattle.wm_syntax.specs.declared.instructions.Op.{Op}
@@ -17,7 +20,8 @@ use Rattle.wm_syntax.specs.declared.instructions.Op.TheVariants as op
 use Rattle.wm_syntax.specs.declared.modules.ImportDesc.{ImportDesc}
 use Rattle.wm_syntax.specs.declared.modules.ImportDesc.TheVariants.{Global}
 use Rattle.wm_syntax.specs.declared.profile.Feature.{Feature}
-use Rattle.wm_syntax.specs.declared.profile.Feature.TheVariants.{Base, Floats, SignExtension}
+use Rattle.wm_syntax.specs.declared.profile.Feature.TheVariants.{Base, Floats, SignExtension, LongIndex}
+use Rattle.wm_syntax.specs.declared.profile.Feature.TheVariants.{Saturation, Copies}
 use Rattle.wm_syntax.specs.declared.profile.Profile.{Profile}
 use Rattle.wm_syntax.specs.Types.{Signature}
 use Rattle.wm_syntax.specs.Instructions.{Instruction, Instructions, none, snoc, simple, table, block, loop}
@@ -29,19 +33,35 @@ abbrev pub has : Profile → Feature → Bool
 has p Base = true
 has p Floats = p.floats
 has p SignExtension = p.sign_extension
+has p LongIndex = p.long_index
+has p Saturation = p.saturation
+has p Copies = p.copies
+
+-- Whether a profile has a feature whose instructions begin with the byte FC.
+abbrev pub has_prefix : Profile → Bool
+has_prefix p = has p Saturation || has p Copies
+
+-- The profile `p` is `base` with this feature added.
+pub record AddsFeature (base : Profile) (feature : Feature) (p : Profile) : Type 0 where
+  pub added : IsTrue (has p feature)
+  pub others : (other : Feature) → other ≢ feature → has p other ≡ has base other
 
 -- The profiles that have a number.
 abbrev pub one : Profile
-one = record { floats = false; sign_extension = false }
+one = record { floats = false; sign_extension = false; long_index = false; saturation = false; copies = false }
 
 abbrev pub two : Profile
-two = record { floats = false; sign_extension = true }
+two = record { floats = false; sign_extension = true; long_index = false; saturation = false; copies = false }
 
 abbrev pub three : Profile
-three = record { floats = true; sign_extension = false }
+three = record { floats = true; sign_extension = false; long_index = false; saturation = false; copies = false }
 
 abbrev pub four : Profile
-four = record { floats = true; sign_extension = true }
+four = record { floats = true; sign_extension = true; long_index = false; saturation = false; copies = false }
+
+-- The profile that has every feature.
+abbrev pub every : Profile
+every = record { floats = true; sign_extension = true; long_index = true; saturation = true; copies = true }
 
 -- The profile q has every feature of p.
 abbrev pub Extends : Profile → Profile → Type 0
@@ -60,6 +80,9 @@ feature_of (Numeric (FloatUnary t op)) = Floats
 feature_of (Numeric (FloatBinary t op)) = Floats
 feature_of (Numeric (Convert op)) = Floats
 feature_of (Numeric (SignExtend op)) = SignExtension
+feature_of (Numeric (Saturate op)) = Saturation
+feature_of MemoryCopy = Copies
+feature_of MemoryFill = Copies
 feature_of _ = Base
 
 -- The feature of a value type.

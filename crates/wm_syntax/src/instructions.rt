@@ -167,6 +167,20 @@ pub enum Conversion {
     F64ReinterpretI64,
 }
 
+/// A truncation of a float to an integer that saturates instead of trapping (WebAssembly 2.0, 2.4.1).
+/// WebAssembly 1.0 has none of these.
+#[derive(Clone, Copy, PartialEq, Eq, Debug)]
+pub enum Saturation {
+    I32TruncSatF32S,
+    I32TruncSatF32U,
+    I32TruncSatF64S,
+    I32TruncSatF64U,
+    I64TruncSatF32S,
+    I64TruncSatF32U,
+    I64TruncSatF64S,
+    I64TruncSatF64U,
+}
+
 /// A numeric instruction other than a constant (Core spec 2.4.1).
 #[derive(Clone, Copy, PartialEq, Eq, Debug)]
 pub enum Numeric {
@@ -182,6 +196,7 @@ pub enum Numeric {
     ExtendS,
     ExtendU,
     SignExtend(SignExtension),
+    Saturate(Saturation),
 }
 
 /// A load instruction without its memory argument (Core spec 2.4.4).
@@ -245,6 +260,9 @@ pub enum Simple {
     GlobalSet(u32),
     MemorySize,
     MemoryGrow,
+    /// `memory.copy` and `memory.fill` are of WebAssembly 2.0 (2.4.7).
+    MemoryCopy,
+    MemoryFill,
     I32Const(i32),
     I64Const(i64),
     /// A float is held as its bits.

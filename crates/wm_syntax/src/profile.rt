@@ -1,7 +1,7 @@
 //! Profiles, and the features of instructions and types.
 
 ghost use Rattle.std.specs.Prelude.{◌≡◌, ◌≢◌, IsTrue};
-ghost use Rattle.wm_syntax.specs.Profiles.{Extends, has};
+ghost use Rattle.wm_syntax.specs.Profiles.{Extends, has, has_prefix};
 ghost use Rattle.wm_syntax.specs.declared.profile.Feature.{Feature as AFeature};
 
 /// The features that a module may use. Each profile has `Feature::Base`.
@@ -9,9 +9,12 @@ ghost use Rattle.wm_syntax.specs.declared.profile.Feature.{Feature as AFeature};
 pub struct Profile {
     floats: bool,
     sign_extension: bool,
+    long_index: bool,
+    saturation: bool,
+    copies: bool,
 }
 
-/// The feature that an instruction or a type belongs to.
+/// The feature that an instruction, a type or an encoding belongs to.
 #[derive(Clone, Copy, PartialEq, Eq, Debug)]
 pub enum Feature {
     /// WebAssembly 1.0 without floats.
@@ -20,6 +23,12 @@ pub enum Feature {
     Floats,
     /// The five sign-extension instructions.
     SignExtension,
+    /// The table index of a `call_indirect`, which is 0, in more than one byte (WebAssembly 2.0, 5.4.1).
+    LongIndex,
+    /// The eight truncations that saturate (WebAssembly 2.0, 2.4.1).
+    Saturation,
+    /// `memory.copy` and `memory.fill` (WebAssembly 2.0, 2.4.7).
+    Copies,
 }
 
 impl Profile {
@@ -27,24 +36,36 @@ impl Profile {
     pub const ONE: Profile = Profile {
         floats: false,
         sign_extension: false,
+        long_index: false,
+        saturation: false,
+        copies: false,
     };
 
     /// WebAssembly 1.0 without floats, and the five sign-extension instructions that came later.
     pub const TWO: Profile = Profile {
         floats: false,
         sign_extension: true,
+        long_index: false,
+        saturation: false,
+        copies: false,
     };
 
     /// All of WebAssembly 1.0.
     pub const THREE: Profile = Profile {
         floats: true,
         sign_extension: false,
+        long_index: false,
+        saturation: false,
+        copies: false,
     };
 
     /// All of WebAssembly 1.0, and the five sign-extension instructions.
     pub const FOUR: Profile = Profile {
         floats: true,
         sign_extension: true,
+        long_index: false,
+        saturation: false,
+        copies: false,
     };
 
     /// Returns the profile that also has the feature.
@@ -63,6 +84,18 @@ impl Profile {
                 sign_extension: true,
                 ..self
             },
+            Feature::LongIndex => Profile {
+                long_index: true,
+                ..self
+            },
+            Feature::Saturation => Profile {
+                saturation: true,
+                ..self
+            },
+            Feature::Copies => Profile {
+                copies: true,
+                ..self
+            },
         }
     }
 
@@ -75,6 +108,17 @@ impl Profile {
             Feature::Base => true,
             Feature::Floats => self.floats,
             Feature::SignExtension => self.sign_extension,
+            Feature::LongIndex => self.long_index,
+            Feature::Saturation => self.saturation,
+            Feature::Copies => self.copies,
         }
+    }
+
+    /// Whether the profile has instructions whose first byte is FC.
+    #[inline(always)]
+    pub fn has_prefix(self) -> bool
+        ensures { result ≡ has_prefix self }
+    {
+        self.saturation || self.copies
     }
 }

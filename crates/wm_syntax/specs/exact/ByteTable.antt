@@ -1,5 +1,5 @@
--- The code's table of first bytes, for the proof of `op_of`, and its exact answer, for the layer above. No
--- promise rests on this table: the other clauses of `op_of` use the table of instructions alone.
+-- The code's table of opcodes, for the proofs of `op_of` and `op_behind`, and their exact answer, for the layer
+-- above. No promise rests on this table: the other clauses of both use the table of instructions alone.
 use Rattle.std.specs.Prelude.{ℕ, List, Option, Some, None as Nothing, slice_get}
 use Rattle.std.specs.Prelude.{if◌then◌else◌}
 use Rattle.wm_syntax.specs.declared.instructions.LoadOp.TheVariants.{F32Load, F64Load}
@@ -10,11 +10,11 @@ use Rattle.wm_syntax.specs.declared.instructions.op_class.OpClass.{OpClass}
 use Rattle.wm_syntax.specs.declared.instructions.op_class.OpClass.TheVariants.{Plain, With, Float, None}
 use Rattle.wm_syntax.specs.declared.instructions.opcodes.TheConstants.{CLASSES}
 use Rattle.wm_syntax.specs.declared.profile.Feature.{Feature}
-use Rattle.wm_syntax.specs.declared.profile.Feature.TheVariants.{Base, Floats}
+use Rattle.wm_syntax.specs.declared.profile.Feature.TheVariants.{Base, Floats, Copies}
 use Rattle.wm_syntax.specs.declared.profile.Profile.{Profile}
 use Rattle.wm_syntax.specs.Profiles.{feature_of, has}
 
--- The class of each byte, from 00 to FF: the code's own table.
+-- The class of each code: the code's own table.
 abbrev pub classes : List OpClass
 classes = CLASSES
 
@@ -23,6 +23,8 @@ abbrev pub class_feature : OpClass → Feature
 class_feature (Plain (op.Simple i)) = feature_of i
 class_feature (With k.F32Const) = Floats
 class_feature (With k.F64Const) = Floats
+class_feature (With k.MemoryCopy) = Copies
+class_feature (With k.MemoryFill) = Copies
 class_feature (With (k.Load F32Load)) = Floats
 class_feature (With (k.Load F64Load)) = Floats
 class_feature (With (k.Store F32Store)) = Floats
@@ -42,6 +44,6 @@ abbrev pub row_in : Profile → Option OpClass → OpClass
 row_in p (Some c) = class_in p c
 row_in p Nothing = None
 
--- The class of a byte under a profile. A number above FF has the class `None`.
+-- The class of a code under a profile. A number past the table has the class `None`.
 unfoldable pub class_under : Profile → ℕ → OpClass
-class_under p byte = row_in p (slice_get classes byte)
+class_under p code = row_in p (slice_get classes code)

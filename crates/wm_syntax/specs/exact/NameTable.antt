@@ -1,4 +1,4 @@
--- The names of ops by their first bytes, the bytes sorted by name, and the exact answer of `op_named`, for
+-- The names of ops by their codes, the codes sorted by name, and the exact answer of `op_named`, for
 -- the layer above. No promise rests on these lists: the other clauses use the table of instructions.
 use Rattle.std.specs.Prelude.{ℕ, Bool, false, List, [], ◌∷◌, Option, Some, None as Nothing, codes, map}
 use Rattle.std.specs.Prelude.{if◌then◌else◌}
@@ -30,6 +30,8 @@ immediates_name k.GlobalGet = codes "global.get"
 immediates_name k.GlobalSet = codes "global.set"
 immediates_name k.MemorySize = codes "memory.size"
 immediates_name k.MemoryGrow = codes "memory.grow"
+immediates_name k.MemoryCopy = codes "memory.copy"
+immediates_name k.MemoryFill = codes "memory.fill"
 immediates_name k.I32Const = codes "i32.const"
 immediates_name k.I64Const = codes "i64.const"
 immediates_name k.F32Const = codes "f32.const"
@@ -47,11 +49,11 @@ abbrev pub name_or_none : Option (List ℕ) → List ℕ
 name_or_none Nothing = []
 name_or_none (Some name) = name
 
--- The name of each byte, from 00 to FF. It is empty if the byte begins no op.
+-- The name of each code. It is empty if no op has the code.
 abbrev pub names : List (List ℕ)
 names = map (λ c. name_or_none (class_name c)) classes
 
--- The bytes that begin an op, sorted by name: the code's own list.
+-- The codes of all ops, sorted by name: the code's own list.
 abbrev pub by_name : List ℕ
 by_name = BY_NAME
 

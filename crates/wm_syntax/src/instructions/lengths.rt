@@ -1,9 +1,9 @@
 //! The encoded length of an op, found without encoding it (Core spec 5.4).
 
 ghost use Rattle.std.specs.Prelude.{◌≡◌, ◌+◌, ◌≤◌};
-ghost use Rattle.wm_syntax.specs.Lengths.{immediates_len, index_len, op_len};
+ghost use Rattle.wm_syntax.specs.Lengths.{code_len, immediates_len, index_len, op_len};
 
-use crate::instructions::{MemArg, Op, Simple};
+use crate::instructions::{MemArg, Numeric, Op, Simple};
 use crate::numbers::lengths::{number_len, signed_len};
 
 // Returns the encoded length of a memory argument, in bytes.
@@ -18,8 +18,8 @@ fn access_len(at: MemArg) -> u64
 // Returns how many bytes follow the first byte of an instruction. It is borrowed, since a copy would go
 // through memory.
 #[inline(always)]
-fn immediates_len(simple: &Simple) -> u64
-    ensures value { result ≡ immediates_len simple.now }
+fn following_len(simple: &Simple) -> u64
+    ensures value { 1 + result ≡ code_len simple.now + immediates_len simple.now }
     ensures short { result ≤ 10 }
 {
     match simple {
@@ -33,11 +33,14 @@ fn immediates_len(simple: &Simple) -> u64
         | Simple::GlobalSet(index) => number_len(u64::from(*index)),
         Simple::CallIndirect(index) => number_len(u64::from(*index)) + 1,
         Simple::MemorySize | Simple::MemoryGrow => 1,
+        Simple::MemoryCopy => 3,
+        Simple::MemoryFill => 2,
         Simple::I32Const(value) => signed_len(i64::from(*value), 5),
         Simple::I64Const(value) => signed_len(*value, 10),
         Simple::F32Const(_) => 4,
         Simple::F64Const(_) => 8,
         Simple::Load(_, at) | Simple::Store(_, at) => access_len(*at),
+        Simple::Numeric(Numeric::Saturate(_)) => 1,
         _ => 0,
     }
 }
@@ -49,7 +52,7 @@ pub fn op_len(op: &Op) -> u64
     ensures { result ≡ op_len op.now }
 {
     match op {
-        Op::Simple(simple) => 1 + immediates_len(simple),
+        Op::Simple(simple) => 1 + following_len(simple),
         Op::Block(_) | Op::Loop(_) | Op::If(_) => 2,
         Op::Else | Op::End => 1,
         Op::BrTable(count) => 1 + number_len(u64::from(*count)),

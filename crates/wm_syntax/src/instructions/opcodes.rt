@@ -1,37 +1,39 @@
-//! The first bytes of instructions, in both directions (Core spec 5.4).
+//! The codes of instructions, in both directions (Core spec 5.4). A code below 0x100 is the first byte of the
+//! instruction. The code 0x100 + n stands for the byte FC and the number n.
 
-ghost use Rattle.std.specs.Prelude.{◌≡◌, ◌↔◌, IsTrue, IsFalse, slice_get};
+ghost use Rattle.std.specs.Prelude.{◌≡◌, ◌+◌, ◌<◌, ◌≤◌, ◌↔◌, IsTrue, IsFalse, slice_get};
 ghost use Rattle.wm_syntax.specs.declared.instructions.Op.{Op};
 ghost use Rattle.wm_syntax.specs.exact.ByteTable.{class_feature, class_in, class_under, classes, left_out};
 ghost use Rattle.wm_syntax.specs.Opcodes.{numeric, opcode};
-ghost use Rattle.wm_syntax.specs.OpClasses.{IsClassOfOp, class_of, first_byte, is_float};
+ghost use Rattle.wm_syntax.specs.Lengths.{code_len};
+ghost use Rattle.wm_syntax.specs.OpClasses.{IsClassOfOp, class_of, code, is_float};
 ghost use Rattle.wm_syntax.specs.Profiles.{IsOpOf, feature_of, has};
 ghost use Rattle.wm_syntax.specs.declared.profile.Feature.TheVariants.{Floats};
 
 use crate::instructions::FloatType::{F32, F64};
 use crate::instructions::IntType::{I32, I64};
 use crate::instructions::Numeric::{
-    Binary, Compare, Convert, ExtendS, ExtendU, FloatBinary, FloatCompare, FloatUnary, SignExtend,
-    Test, Unary, Wrap,
+    Binary, Compare, Convert, ExtendS, ExtendU, FloatBinary, FloatCompare, FloatUnary, Saturate,
+    SignExtend, Test, Unary, Wrap,
 };
 use crate::instructions::Simple::Numeric;
 use crate::instructions::op_class::OpClass::{Plain, With};
 use crate::instructions::op_class::{Immediates, OpClass};
 use crate::instructions::{
     BinaryOp, Comparison, Conversion, FloatBinaryOp, FloatComparison, FloatUnaryOp, LoadOp,
-    Numeric as NumericOp, Op, SignExtension, Simple, StoreOp, UnaryOp,
+    Numeric as NumericOp, Op, Saturation, SignExtension, Simple, StoreOp, UnaryOp,
 };
 use crate::opcode_table;
 use crate::profile::{Feature, Profile};
 
-/// Returns the class of the op that this byte begins: an instruction, an `else` or an `end` (Core spec 5.4).
-/// Returns `Float` if it begins a float instruction and the profile has no floats. Returns `None` if it
-/// begins no op of the profile.
+/// Returns the class of the op whose code is this byte: an instruction, an `else` or an `end` (Core spec 5.4).
+/// Returns `Float` if it begins a float instruction and the profile has no floats. Returns `None` if it is the
+/// code of no op of the profile. This includes FC.
 pub fn op_of(profile: Profile, byte: u8) -> OpClass
-    // Each op of the profile that begins with the byte has this class. The class is that of an op of the
-    // profile that begins with it.
-    ensures found { (op : Op) → first_byte op ≡ Some byte → IsOpOf profile op → result ≡ class_of op }
-    ensures only { IsClassOfOp result → (op : Op) × (first_byte op ≡ Some byte) × IsOpOf profile op
+    // Each op of the profile whose code is the byte has this class. The class is that of an op of the profile
+    // with this code.
+    ensures found { (op : Op) → code op ≡ Some byte → IsOpOf profile op → result ≡ class_of op }
+    ensures only { IsClassOfOp result → (op : Op) × (code op ≡ Some byte) × IsOpOf profile op
         × (class_of op ≡ result) }
     // `Float` means that the profile has no floats, and that the byte begins a float instruction.
     ensures float { IsFalse (has profile Floats) → (result ≡ OpClass.Float) ↔ IsTrue (is_float byte) }
@@ -39,6 +41,28 @@ pub fn op_of(profile: Profile, byte: u8) -> OpClass
     ensures exact { result ≡ class_under profile byte }
 {
     within(profile, class_at(byte))
+}
+
+/// Returns the class of the instruction whose bytes begin with FC and this number (WebAssembly 2.0, 5.4). Returns
+/// `None` if the profile has no such instruction.
+pub fn op_behind(profile: Profile, number: u32) -> OpClass
+    ensures found { (op : Op) → code op ≡ Some (0x100 + number) → IsOpOf profile op → result ≡ class_of op }
+    ensures only { IsClassOfOp result → (op : Op) × (code op ≡ Some (0x100 + number)) × IsOpOf profile op
+        × (class_of op ≡ result) }
+    ensures no_float { result ≡ OpClass.Float → ⊥ }
+    ensures exact { result ≡ class_under profile (0x100 + number) }
+{
+    op_with(profile, 0x100 + number as usize)
+}
+
+/// Returns the class of the op with this code, as `op_of` does for a byte.
+pub(crate) fn op_with(profile: Profile, wanted: usize) -> OpClass
+    ensures { result ≡ class_under profile wanted }
+{
+    if wanted >= CLASSES.len() {
+        return OpClass::None;
+    }
+    within(profile, CLASSES[wanted])
 }
 
 fn within(profile: Profile, class: OpClass) -> OpClass
@@ -71,6 +95,7 @@ fn feature_of_class(class: OpClass) -> Feature
             Immediates::F32Const | Immediates::F64Const => Feature::Floats,
             Immediates::Load(LoadOp::F32Load | LoadOp::F64Load) => Feature::Floats,
             Immediates::Store(StoreOp::F32Store | StoreOp::F64Store) => Feature::Floats,
+            Immediates::MemoryCopy | Immediates::MemoryFill => Feature::Copies,
             _ => Feature::Base,
         },
         _ => Feature::Base,
@@ -90,8 +115,10 @@ fn feature_of_simple(simple: Simple) -> Feature
                 Feature::Floats
             }
             SignExtend(_) => Feature::SignExtension,
+            Saturate(_) => Feature::Saturation,
             _ => Feature::Base,
         },
+        Simple::MemoryCopy | Simple::MemoryFill => Feature::Copies,
         _ => Feature::Base,
     }
 }
@@ -153,6 +180,9 @@ macro_rules! numeric {
     ([sign_extend] $op:ident) => {
         SignExtend(SignExtension::$op)
     };
+    ([saturate] $op:ident) => {
+        Saturate(Saturation::$op)
+    };
 }
 
 macro_rules! class_table {
@@ -161,8 +191,8 @@ macro_rules! class_table {
     };
 }
 
-// The class of each byte, from 00 to FF, under a profile that has all features.
-static CLASSES: [OpClass; 256] = opcode_table!(all, class_table);
+// The class of each code under a profile that has all features.
+static CLASSES: [OpClass; 268] = opcode_table!(all, class_table);
 
 // The class of the byte under a profile that has all features.
 fn class_at(byte: u8) -> OpClass
@@ -213,8 +243,8 @@ macro_rules! code_of_alone {
     };
 }
 
-fn numeric_byte(op: NumericOp) -> u8
-    ensures { result ≡ (numeric op).byte }
+fn numeric_code(op: NumericOp) -> u16
+    ensures { result ≡ (numeric op).code }
 {
     match op {
         Test(ty) => opcode_table!(test, code_of_type, ty),
@@ -228,6 +258,7 @@ fn numeric_byte(op: NumericOp) -> u8
         FloatBinary(ty, op) => opcode_table!(float_binary, code_of_typed, FloatBinaryOp, ty, op),
         Convert(op) => opcode_table!(convert, code_of, Conversion, op),
         SignExtend(op) => opcode_table!(sign_extend, code_of, SignExtension, op),
+        Saturate(op) => opcode_table!(saturate, code_of, Saturation, op),
         _ => opcode_table!(integer, code_of_alone, op),
     }
 }
@@ -239,7 +270,7 @@ macro_rules! code_of_plain {
             $($(Simple::$op => $code,)*)*
             Simple::Load(op, _) => opcode_table!(load, code_of, LoadOp, op),
             Simple::Store(op, _) => opcode_table!(store, code_of, StoreOp, op),
-            Numeric(op) => numeric_byte(op),
+            Numeric(op) => numeric_code(op),
             _ => opcode_table!(number, code_of_number, $simple),
         }
     };
@@ -255,8 +286,17 @@ macro_rules! code_of_number {
     };
 }
 
-/// Returns the byte that an instruction begins with (Core spec 5.4).
-pub fn first_byte(simple: Simple) -> u8
+/// Returns the code of an instruction (Core spec 5.4). It is below 0x100 if it is one byte, and below 0x10C if two.
+pub fn code(simple: Simple) -> u16
+    ensures value { result ≡ (opcode simple).0 }
+    ensures range { result < 0x10C }
+    ensures byte { code_len simple ≡ 1 → result < 0x100 }
+    ensures prefixed { code_len simple ≡ 2 → 0x100 ≤ result }
+{
+    simple_code(simple)
+}
+
+fn simple_code(simple: Simple) -> u16
     ensures { result ≡ (opcode simple).0 }
 {
     opcode_table!(plain, code_of_plain, simple)

@@ -1,12 +1,13 @@
 //! The code's one table of instructions, in the order of their codes. `specs/Opcodes.antt` says what is
-//! right, and each reader of the table is proved against it.
+//! right, and each reader of the table is proved against it. `0x100 + n` is the code of an instruction whose
+//! bytes begin with FC and the number n.
 //!
 //! The table consists of runs. A run is `GROUP { ROWS }`, or `GROUP(TYPE) { ROWS }` for a numeric group that
 //! has a run for each of two types. Ops of the group `plain` hold no number, those of `number` hold one.
 //!
 //! | Row | For |
 //! |---|---|
-//! | `CODE;` | a byte that begins no op |
+//! | `CODE;` | a code that no op has |
 //! | `CODE => NAME, OP;` | an op without immediates |
 //! | `CODE => NAME, OP(IMMEDIATES);` | an op with immediates; its class is the kind of them |
 //! | `CODE => NAME, OP(WIDTH, TYPE);` | a load or a store: its width in bytes, and the type of its value |
@@ -260,6 +261,21 @@ macro_rules! opcode_table {
                 0xE9; 0xEA; 0xEB; 0xEC; 0xED; 0xEE; 0xEF; 0xF0; 0xF1; 0xF2; 0xF3; 0xF4;
                 0xF5; 0xF6; 0xF7; 0xF8; 0xF9; 0xFA; 0xFB; 0xFC; 0xFD; 0xFE; 0xFF;
             }
+            saturate {
+                0x100 => b"i32.trunc_sat_f32_s", I32TruncSatF32S(F32 -> I32);
+                0x101 => b"i32.trunc_sat_f32_u", I32TruncSatF32U(F32 -> I32);
+                0x102 => b"i32.trunc_sat_f64_s", I32TruncSatF64S(F64 -> I32);
+                0x103 => b"i32.trunc_sat_f64_u", I32TruncSatF64U(F64 -> I32);
+                0x104 => b"i64.trunc_sat_f32_s", I64TruncSatF32S(F32 -> I64);
+                0x105 => b"i64.trunc_sat_f32_u", I64TruncSatF32U(F32 -> I64);
+                0x106 => b"i64.trunc_sat_f64_s", I64TruncSatF64S(F64 -> I64);
+                0x107 => b"i64.trunc_sat_f64_u", I64TruncSatF64U(F64 -> I64);
+            }
+            reserved { 0x108; 0x109; }
+            plain {
+                0x10A => b"memory.copy", MemoryCopy(zeros);
+                0x10B => b"memory.fill", MemoryFill(zero);
+            }
         }
     };
 }
@@ -314,6 +330,9 @@ macro_rules! pick_runs {
     };
     (sign_extend $to:tt [$($found:tt)*] sign_extend $(($ty:ident))? { $($row:tt)* } $($more:tt)*) => {
         $crate::pick_runs! { sign_extend $to [$($found)* $(($ty))? { $($row)* }] $($more)* }
+    };
+    (saturate $to:tt [$($found:tt)*] saturate $(($ty:ident))? { $($row:tt)* } $($more:tt)*) => {
+        $crate::pick_runs! { saturate $to [$($found)* $(($ty))? { $($row)* }] $($more)* }
     };
     ($group:ident $to:tt $found:tt $other:ident $(($ty:ident))? { $($row:tt)* } $($more:tt)*) => {
         $crate::pick_runs! { $group $to $found $($more)* }

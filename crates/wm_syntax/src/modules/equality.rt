@@ -157,7 +157,7 @@ fn same_numeric(a: Numeric, b: Numeric) -> bool
     ensures { (result ≡ true) ↔ (a ≡ b) }
 {
     same_variant!(
-        Numeric: a, b; Wrap ExtendS ExtendU; Test Convert SignExtend;
+        Numeric: a, b; Wrap ExtendS ExtendU; Test Convert SignExtend Saturate;
         Compare Unary Binary FloatCompare FloatUnary FloatBinary;
     )
 }

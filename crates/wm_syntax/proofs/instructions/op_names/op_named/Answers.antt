@@ -11,7 +11,7 @@ loop-low-preserved-in-Less c =
     record {
       order = omega (arith, lt);
       size = omega (arith, lt, i.size);
-      below = below_more c.args.word.now mid (omega (arith, lt, i.size)) (compared c.args.word.now c.name_of.result.now c.byte_at-byte.result mid c.cmp.result _ c.byte_at-byte.ensures c.name_of.ensures.exact c.cmp.ensures c.in-Less.is);
+      below = below_more c.args.word.now mid (omega (arith, lt, i.size)) (compared c.args.word.now c.name_of.result.now c.code_at-code.result mid c.cmp.result _ c.code_at-code.ensures c.name_of.ensures.exact c.cmp.ensures c.in-Less.is);
       above = i.above;
     }
 
@@ -23,7 +23,7 @@ loop-low-preserved c =
       order = omega (arith, lt);
       size = omega (arith, lt, i.size);
       below = i.below;
-      above = above_more c.args.word.now mid (omega (arith, lt, i.size)) (compared c.args.word.now c.name_of.result.now c.byte_at-byte.result mid c.cmp.result _ c.byte_at-byte.ensures c.name_of.ensures.exact c.cmp.ensures c.in-Greater.is);
+      above = above_more c.args.word.now mid (omega (arith, lt, i.size)) (compared c.args.word.now c.name_of.result.now c.code_at-code.result mid c.cmp.result _ c.code_at-code.ensures c.name_of.ensures.exact c.cmp.ensures c.in-Greater.is);
     }
 
 pub returns-in-Equal : goal.returns-in-Equal
@@ -31,8 +31,8 @@ returns-in-Equal c =
     let i = c.loop-low.invariant in let mid = c.loop-low.low + (c.loop-low.high - c.loop-low.low) / 2 in
     let lt : mid < c.loop-low.high = omega (arith, c.loop-low-test.true) in
     let says = named_says c.args.profile c.args.word.now _
-    (c.op_of.ensures.exact ∙ ap (class_under c.args.profile) c.byte_at-byte.ensures
-    ∙ search_found c.args.profile c.args.word.now mid (omega (arith, lt, i.size)) (compared c.args.word.now c.name_of.result.now c.byte_at-byte.result mid c.cmp.result _ c.byte_at-byte.ensures c.name_of.ensures.exact c.cmp.ensures c.in-Equal.is)) in
+    (c.op_with.ensures ∙ ap (class_under c.args.profile) c.code_at-code.ensures
+    ∙ search_found c.args.profile c.args.word.now mid (omega (arith, lt, i.size)) (compared c.args.word.now c.name_of.result.now c.code_at-code.result mid c.cmp.result _ c.code_at-code.ensures c.name_of.ensures.exact c.cmp.ensures c.in-Equal.is)) in
     record { found = says.0; only = says.1; exact = says.2 }
 
 pub returns : goal.returns
