@@ -1,6 +1,6 @@
 -- A profile reads each byte as a profile that extends it does, unless it lacks the thing that the byte begins.
-use Rattle.std.proofs.Common.{◌≡◌, ◌⊎◌, ℕ, zero, suc, ◌+◌, ◌≤◌, List, [], ◌∷◌, Option, Some, None as Nothing, Result, Ok, Err, Bool, true, false, refl, sym, ◌∙◌, ap, subst, inl, inr, arith, length-append, nat_eq, nat_lt, cond}
-use Rattle.std.proofs.lemmas.Bool.{cond_both, cond-true}
+use Rattle.std.proofs.Common.{◌≡◌, ◌⊎◌, ℕ, zero, suc, ◌+◌, ◌-◌, ◌≤◌, ◌||◌, IsTrue, List, [], ◌∷◌, Option, Some, None as Nothing, Result, Ok, Err, Bool, true, false, refl, sym, ◌∙◌, ap, subst, inl, inr, arith, length-append, nat_eq, nat_lt, cond}
+use Rattle.std.proofs.lemmas.Bool.{cond_both, cond-true, or_cases}
 use Rattle.std.specs.Prelude.{slice_get}
 use Rattle.wm_syntax.specs.declared.why.Why.{Why}
 use Rattle.wm_syntax.specs.declared.why.Why.TheVariants as why
@@ -9,9 +9,9 @@ use Rattle.wm_syntax.specs.declared.types.ValType.TheVariants.{I32, I64, F32, F6
 use Rattle.wm_syntax.specs.declared.instructions.Op.{Op}
 use Rattle.wm_syntax.specs.declared.instructions.op_class.OpClass.{OpClass}
 use Rattle.wm_syntax.specs.declared.profile.Feature.{Feature}
-use Rattle.wm_syntax.specs.declared.profile.Feature.TheVariants.{Base, Floats, SignExtension}
+use Rattle.wm_syntax.specs.declared.profile.Feature.TheVariants.{Base, Floats, SignExtension, LongIndex, Saturation, Copies}
 use Rattle.wm_syntax.specs.declared.profile.Profile.{Profile}
-use Rattle.wm_syntax.specs.Profiles.{Extends, has, type_feature}
+use Rattle.wm_syntax.specs.Profiles.{Extends, has, has_prefix, type_feature}
 use Rattle.wm_syntax.specs.exact.ByteTable.{classes, class_feature, left_out, class_in, row_in, class_under}
 use Rattle.wm_machine.specs.declared.machine.Machine.{Machine}
 use Rattle.wm_machine.specs.declared.machine.Machine.TheVariants as machine
@@ -43,25 +43,37 @@ use Rattle.wm_machine.specs.BetweenProfiles.{IsProfileName, SameUpToProfile}
 use Rattle.wm_machine.specs.Items.{Item}
 use Rattle.wm_machine.specs.Sinks.{and_then}
 use Rattle.wm_machine.specs.exact.ValueSteps.{type_under, value_type_of, read_type, global_type_push, desc_push, in_global, run_push, value_push, of_import}
-use Rattle.wm_machine.specs.exact.OpSteps.{first_step, block_op, block_step, op_push}
+use Rattle.wm_machine.specs.exact.OpSteps.{class_step, prefix_step, begin_step, behind_step, padded, code_step, more_padding, padding_step, block_op, block_step, call_op, long_step, table_step, op_push}
 use Rattle.wm_machine.specs.exact.ExpressionSteps.{start, after_reading, expression_step}
 use Rattle.wm_machine.specs.exact.MemberSteps.{on_value, on_type, with_item_given, after_param, after_result, after_constant, op_event, runs_or_body, entry_after_op, entry_step, member_in_entry, member_step}
 use Rattle.wm_machine.specs.exact.Steps.{machine_in_member, step_of}
 use Rattle.wm_machine.specs.exact.Live.{Live, answer_at_end, answer_at_end_of, decoder_after, event_effect, live_at_start, live_byte, live_from}
 use Rattle.wm_machine.specs.inner.Answers.{answer_of}
 use Rattle.wm_machine.proofs.MachineAndSink.{live_ok, reached, used_of}
+use Rattle.std.specs.Prelude.{if◌then◌else◌}
+
+-- a profile that extends one with instructions behind the prefix has some
+prefix_more : (p q : Profile) → Extends q p → IsTrue (has_prefix p) → IsTrue (has_prefix q)
+prefix_more p q more h = elim (or_cases (has p Saturation) (has p Copies) h) [
+  | inl k ↦ ap (λ (b : Bool). b || has q Copies) (more Saturation k)
+  | inr k ↦ or_right (has q Saturation) (has q Copies) (more Copies k)
+]
+  where
+    or_right : (a b : Bool) → b ≡ true → (a || b) ≡ true
+    or_right true b e = refl
+    or_right false b e = e
 
 -- the same, or the first was refused by a name of its profile
-abbrev Apart : {A : Type 0} → (Why → A) → A → A → Type 0
-Apart refused x y = (x ≡ y) ⊎ ((w : Why) × IsProfileName w × (x ≡ refused w))
+abbrev Apart : {A : Type 0} → Profile → Profile → (Why → A) → A → A → Type 0
+Apart p q refused x y = (x ≡ y) ⊎ ((w : Why) × IsProfileName p q w × (x ≡ refused w))
 
 -- a value type by what its byte is
 abbrev type_by : Profile → (i32 i64 f32 f64 : Bool) → Result ValType Why
 type_by p i32 i64 f32 f64 =
     cond i32 (type_under p I32) (cond i64 (type_under p I64) (cond f32 (type_under p F32) (cond f64 (type_under p F64) (Err why.BadByte))))
 
-through : {A B : Type 0} (refused : Why → A) (f : A → B) (x y : A) → Apart refused x y → Apart (λ w. f (refused w)) (f x) (f y)
-through refused f x y h = elim h [ inl e ↦ inl (ap f e) | inr l ↦ inr (l.0, l.1, ap f l.2) ]
+through : {A B : Type 0} (p q : Profile) (refused : Why → A) (f : A → B) (x y : A) → Apart p q refused x y → Apart p q (λ w. f (refused w)) (f x) (f y)
+through p q refused f x y h = elim h [ inl e ↦ inl (ap f e) | inr l ↦ inr (l.0, l.1, ap f l.2) ]
 
 -- what is refused at the input's end is refused at its last byte
 module _ {H : Type 0} (h : H) (n : ℕ) (r : Refusal) where
@@ -75,17 +87,17 @@ module _ {H : Type 0} (h : H) (n : ℕ) (r : Refusal) where
   end_at _ e = placed why.Truncated e
 
 module _ (p q : Profile) (more : Extends q p) where
-  type_under_apart : (t : ValType) → Apart Err (type_under p t) (type_under q t)
+  type_under_apart : (t : ValType) → Apart p q Err (type_under p t) (type_under q t)
   type_under_apart t =
-      cond_both (has p (type_feature t)) _ _ (λ (r : Result ValType Why). Apart Err r (type_under q t))
+      cond_both (has p (type_feature t)) _ _ (λ (r : Result ValType Why). Apart p q Err r (type_under q t))
       (λ h. inl (sym (cond-true (has q (type_feature t)) _ _ (more (type_feature t) h))))
       (λ _. inr (why.Float, tt, refl))
 
   module _ (c : ℕ) where
-    type_apart : Apart Err (value_type_of p c) (value_type_of q c)
+    type_apart : Apart p q Err (value_type_of p c) (value_type_of q c)
     type_apart = by (nat_eq c 0x7F) (nat_eq c 0x7E) (nat_eq c 0x7D) (nat_eq c 0x7C)
       where
-        by : (a b d e : Bool) → Apart Err (type_by p a b d e) (type_by q a b d e)
+        by : (a b d e : Bool) → Apart p q Err (type_by p a b d e) (type_by q a b d e)
         by true b d e = type_under_apart I32
         by false true d e = type_under_apart I64
         by false false true e = type_under_apart F32
@@ -93,90 +105,143 @@ module _ (p q : Profile) (more : Extends q p) where
         by false false false false = inl refl
 
     -- the readers of values
-    read_apart : {R X : Type 0} (f : ValType → Reading R X) → Apart Bad (read_type (value_type_of p c) f) (read_type (value_type_of q c) f)
-    read_apart f = through Err (λ r. read_type r f) (value_type_of p c) (value_type_of q c) type_apart
+    read_apart : {R X : Type 0} (f : ValType → Reading R X) → Apart p q Bad (read_type (value_type_of p c) f) (read_type (value_type_of q c) f)
+    read_apart f = through p q Err (λ r. read_type r f) (value_type_of p c) (value_type_of q c) type_apart
 
-    global_apart : (g : InGlobalType) → Apart Bad (global_type_push p g c) (global_type_push q g c)
+    global_apart : (g : InGlobalType) → Apart p q Bad (global_type_push p g c) (global_type_push q g c)
     global_apart global.Type = read_apart (λ t. More (global.Var t))
     global_apart (global.Var t) = inl refl
 
-    desc_apart : (d : InImportDesc) → Apart Bad (desc_push p d c) (desc_push q d c)
-    desc_apart (import.Global g) = through Bad in_global (global_type_push p g c) (global_type_push q g c) (global_apart g)
+    desc_apart : (d : InImportDesc) → Apart p q Bad (desc_push p d c) (desc_push q d c)
+    desc_apart (import.Global g) = through p q Bad in_global (global_type_push p g c) (global_type_push q g c) (global_apart g)
     desc_apart _ = inl refl
 
-    run_apart : (r : InRun) → Apart Bad (run_push p r c) (run_push q r c)
+    run_apart : (r : InRun) → Apart p q Bad (run_push p r c) (run_push q r c)
     run_apart (run.Count r) = inl refl
     run_apart (run.Type n) = read_apart (λ t. Done (n, t))
 
-    value_apart : (v : InValue) → Apart Bad (value_push p v c) (value_push q v c)
-    value_apart (value.Import d) = through Bad of_import (desc_push p d c) (desc_push q d c) (desc_apart d)
+    value_apart : (v : InValue) → Apart p q Bad (value_push p v c) (value_push q v c)
+    value_apart (value.Import d) = through p q Bad of_import (desc_push p d c) (desc_push q d c) (desc_apart d)
     value_apart _ = inl refl
 
     -- the reader of an op
-    left_out_apart : (f : Feature) (x : Reading InOp Op) → Apart Bad (first_step (left_out f)) x
+    left_out_apart : (f : Feature) (x : Reading InOp Op) → Apart p q Bad (class_step (left_out f)) x
     left_out_apart Base x = inr (why.BadOpcode, tt, refl)
     left_out_apart Floats x = inr (why.Float, tt, refl)
     left_out_apart SignExtension x = inr (why.BadOpcode, tt, refl)
+    left_out_apart LongIndex x = inr (why.BadOpcode, tt, refl)
+    left_out_apart Saturation x = inr (why.BadOpcode, tt, refl)
+    left_out_apart Copies x = inr (why.BadOpcode, tt, refl)
 
-    class_apart : (k : OpClass) → Apart Bad (first_step (class_in p k)) (first_step (class_in q k))
-    class_apart k =
-        cond_both (has p (class_feature k)) _ _ (λ z. Apart Bad (first_step z) (first_step (class_in q k)))
-        (λ h. inl (ap first_step (sym (cond-true (has q (class_feature k)) _ _ (more (class_feature k) h)))))
-        (λ _. left_out_apart (class_feature k) (first_step (class_in q k)))
+    in_profiles : (k : OpClass) → Apart p q Bad (class_step (class_in p k)) (class_step (class_in q k))
+    in_profiles k =
+        cond_both (has p (class_feature k)) _ _ (λ z. Apart p q Bad (class_step z) (class_step (class_in q k)))
+        (λ h. inl (ap class_step (sym (cond-true (has q (class_feature k)) _ _ (more (class_feature k) h)))))
+        (λ _. left_out_apart (class_feature k) (class_step (class_in q k)))
 
-    row_apart : (row : Option OpClass) → Apart Bad (first_step (row_in p row)) (first_step (row_in q row))
-    row_apart (Some k) = class_apart k
+    row_apart : (row : Option OpClass) → Apart p q Bad (class_step (row_in p row)) (class_step (row_in q row))
+    row_apart (Some k) = in_profiles k
     row_apart Nothing = inl refl
 
-    first_apart : Apart Bad (first_step (class_under p c)) (first_step (class_under q c))
+    class_apart : (x : ℕ) → Apart p q Bad (class_step (class_under p x)) (class_step (class_under q x))
     unfolding class_under
-    first_apart = row_apart (slice_get classes c)
+    class_apart x = row_apart (slice_get classes x)
 
-    block_apart : (o : BlockOp) → Apart Bad (block_step p o c) (block_step q o c)
+    -- behind the prefix
+    prefix_apart : Apart p q Bad (prefix_step p) (prefix_step q)
+    prefix_apart =
+        cond_both (has_prefix p) _ _ (λ (x : Reading InOp Op). Apart p q Bad x (prefix_step q))
+        (λ h. inl (sym (cond-true (has_prefix q) _ _ (prefix_more p q more h))))
+        (λ _. inr (why.BadOpcode, tt, refl))
+
+    begin_apart : Apart p q Bad (begin_step p c) (begin_step q c)
+    begin_apart = by (nat_eq c 0xFC)
+      where
+        by : (b : Bool) → Apart {A = Reading InOp Op} p q Bad (if b then prefix_step p else class_step (class_under p c)) (if b then prefix_step q else class_step (class_under q c))
+        by true = prefix_apart
+        by false = class_apart c
+
+    padded_apart : (n : ℕ) (x y : Reading InOp Op) → Apart p q Bad x y → Apart p q Bad (padded x n) (padded y n)
+    padded_apart n x y (inl e) = inl (ap (λ z. padded z n) e)
+    padded_apart n x y (inr (w, i, e)) = inr (w, i, ap (λ z. padded z n) e)
+
+    code_apart : Apart p q Bad (code_step p c) (code_step q c)
+    code_apart = by (nat_lt c 0x80)
+      where
+        by : (b : Bool) → Apart {A = Reading InOp Op} p q Bad (if b then behind_step p c else padded (behind_step p (c - 0x80)) (c - 0x80)) (if b then behind_step q c else padded (behind_step q (c - 0x80)) (c - 0x80))
+        by true = class_apart (0x100 + c)
+        by false = padded_apart (c - 0x80) _ _ (class_apart (0x100 + (c - 0x80)))
+
+    padding_apart : (n left : ℕ) → Apart p q Bad (padding_step p n left c) (padding_step q n left c)
+    padding_apart n left = by (nat_eq c 0x00)
+      where
+        by : (b : Bool) → Apart {A = Reading InOp Op} p q Bad (if b then behind_step p n else more_padding n left c) (if b then behind_step q n else more_padding n left c)
+        by true = class_apart (0x100 + n)
+        by false = inl refl
+
+    block_apart : (o : BlockOp) → Apart p q Bad (block_step p o c) (block_step q o c)
     block_apart o = by (nat_eq c 0x40)
       where
-        by : (b : Bool) → Apart {A = Reading InOp Op} Bad (cond b (Done (block_op o Nothing)) (read_type (value_type_of p c) (λ t. Done (block_op o (Some t))))) (cond b (Done (block_op o Nothing)) (read_type (value_type_of q c) (λ t. Done (block_op o (Some t)))))
+        by : (b : Bool) → Apart {A = Reading InOp Op} p q Bad (cond b (Done (block_op o Nothing)) (read_type (value_type_of p c) (λ t. Done (block_op o (Some t))))) (cond b (Done (block_op o Nothing)) (read_type (value_type_of q c) (λ t. Done (block_op o (Some t)))))
         by true = inl refl
         by false = read_apart (λ t. Done (block_op o (Some t)))
 
-    op_apart : (o : InOp) → Apart Bad (op_push p o c) (op_push q o c)
-    op_apart place.First = first_apart
+    -- a table index of one byte, and of several
+    index_apart : (n left : ℕ) → Apart p q Bad (table_step p n left c) (table_step q n left c)
+    index_apart n left = by (nat_eq c 0x00)
+      where
+        other : Apart p q Bad (if has p LongIndex then long_step n left c else Bad why.BadByte) (if has q LongIndex then long_step n left c else Bad why.BadByte)
+        other =
+            cond_both (has p LongIndex) _ _ (λ (x : Reading InOp Op). Apart p q Bad x (if has q LongIndex then long_step n left c else Bad why.BadByte))
+            (λ h. inl (sym (cond-true (has q LongIndex) _ _ (more LongIndex h))))
+            (λ k. cond_both (has q LongIndex) _ _ (λ (x : Reading InOp Op). Apart p q Bad (Bad why.BadByte) x) (λ h. inr (why.BadByte, (h, k), refl)) (λ _. inl refl))
+
+        by : (b : Bool) → Apart {A = Reading InOp Op} p q Bad (if b then Done (call_op n) else (if has p LongIndex then long_step n left c else Bad why.BadByte))
+            (if b then Done (call_op n) else (if has q LongIndex then long_step n left c else Bad why.BadByte))
+        by true = inl refl
+        by false = other
+
+    op_apart : (o : InOp) → Apart p q Bad (op_push p o c) (op_push q o c)
+    op_apart place.First = begin_apart
+    op_apart place.Code = code_apart
+    op_apart (place.Padding n left) = padding_apart n left
     op_apart (place.BlockType o) = block_apart o
+    op_apart (place.CallTable n left) = index_apart n left
     op_apart _ = inl refl
 
-    expression_apart : (e : InExpression) → Apart (λ w. (expression.Failed w, Nothing)) (expression_step p e c) (expression_step q e c)
-    expression_apart (expression.Op depth o) = through Bad (after_reading depth) (op_push p o c) (op_push q o c) (op_apart o)
+    expression_apart : (e : InExpression) → Apart p q (λ w. (expression.Failed w, Nothing)) (expression_step p e c) (expression_step q e c)
+    expression_apart (expression.Op depth o) = through p q Bad (after_reading depth) (op_push p o c) (op_push q o c) (op_apart o)
     expression_apart _ = inl refl
 
     -- code entries, members and sections
-    entry_apart : (n : InEntry) → Apart (λ w. (entry.Failed w, event.Nothing)) (entry_step p n c) (entry_step q n c)
+    entry_apart : (n : InEntry) → Apart p q (λ w. (entry.Failed w, event.Nothing)) (entry_step p n c) (entry_step q n c)
     entry_apart (entry.Run left r) =
-        through Bad (λ x. on_value x (λ s. entry.Run left s) (λ x. with_item_given (runs_or_body left) (plain.Locals x.0 x.1)) entry.Failed) (run_push p r c) (run_push q r c) (run_apart r)
+        through p q Bad (λ x. on_value x (λ s. entry.Run left s) (λ x. with_item_given (runs_or_body left) (plain.Locals x.0 x.1)) entry.Failed) (run_push p r c) (run_push q r c) (run_apart r)
     entry_apart (entry.Body e) =
-        through (λ w. (expression.Failed w, Nothing)) (λ x. (entry_after_op x.0, op_event plain.BodyOp x.1)) (expression_step p e c) (expression_step q e c) (expression_apart e)
+        through p q (λ w. (expression.Failed w, Nothing)) (λ x. (entry_after_op x.0, op_event plain.BodyOp x.1)) (expression_step p e c) (expression_step q e c) (expression_apart e)
     entry_apart _ = inl refl
 
     abbrev AreApart : (x y : InMember × Event) → Type 0
-    AreApart = Apart (λ w. (at.Failed w, event.Nothing))
+    AreApart = Apart p q (λ w. (at.Failed w, event.Nothing))
 
     member_apart : (m : InMember) → AreApart (member_step p m c) (member_step q m c)
     member_apart (at.Param left) =
-        through Err (λ r. on_type r (λ t. with_item_given (after_param left) (plain.Param t)) at.Failed) (value_type_of p c) (value_type_of q c) type_apart
+        through p q Err (λ r. on_type r (λ t. with_item_given (after_param left) (plain.Param t)) at.Failed) (value_type_of p c) (value_type_of q c) type_apart
     member_apart (at.ResultType left) =
-        through Err (λ r. on_type r (λ t. with_item_given (after_result left) (plain.OneResult t)) at.Failed) (value_type_of p c) (value_type_of q c) type_apart
+        through p q Err (λ r. on_type r (λ t. with_item_given (after_result left) (plain.OneResult t)) at.Failed) (value_type_of p c) (value_type_of q c) type_apart
     member_apart (at.Value v) =
-        through Bad (λ x. on_value x at.Value (λ i. with_item_given at.Over i) at.Failed) (value_push p v c) (value_push q v c) (value_apart v)
+        through p q Bad (λ x. on_value x at.Value (λ i. with_item_given at.Over i) at.Failed) (value_push p v c) (value_push q v c) (value_apart v)
     member_apart (at.GlobalType g) =
-        through Bad (λ x. on_value x at.GlobalType (λ t. with_item_given (at.Constant constant.Global start) (plain.Global t)) at.Failed) (global_type_push p g c) (global_type_push q g c) (global_apart g)
+        through p q Bad (λ x. on_value x at.GlobalType (λ t. with_item_given (at.Constant constant.Global start) (plain.Global t)) at.Failed) (global_type_push p g c) (global_type_push q g c) (global_apart g)
     member_apart (at.Constant of e) =
-        through (λ w. (expression.Failed w, Nothing)) (λ x. (after_constant of x.0, op_event plain.ConstOp x.1)) (expression_step p e c) (expression_step q e c) (expression_apart e)
+        through p q (λ w. (expression.Failed w, Nothing)) (λ x. (after_constant of x.0, op_event plain.ConstOp x.1)) (expression_step p e c) (expression_step q e c) (expression_apart e)
     member_apart (at.Entry left n) =
-        through (λ w. (entry.Failed w, event.Nothing)) (λ x. (member_in_entry left x.0, x.1)) (entry_step p n c) (entry_step q n c) (entry_apart n)
+        through p q (λ w. (entry.Failed w, event.Nothing)) (λ x. (member_in_entry left x.0, x.1)) (entry_step p n c) (entry_step q n c) (entry_apart n)
     member_apart _ = inl refl
 
-    step_apart : (m : Machine) → Apart (λ w. (machine.Refused w, event.Nothing)) (step_of p m c) (step_of q m c)
+    step_apart : (m : Machine) → Apart p q (λ w. (machine.Refused w, event.Nothing)) (step_of p m c) (step_of q m c)
     step_apart (machine.Section of functions bytes left m) =
-        through (λ w. (at.Failed w, event.Nothing)) (λ x. (machine_in_member of functions bytes left x.0, x.1)) (member_step p m c) (member_step q m c) (member_apart m)
+        through p q (λ w. (at.Failed w, event.Nothing)) (λ x. (machine_in_member of functions bytes left x.0, x.1)) (member_step p m c) (member_step q m c) (member_apart m)
     step_apart _ = inl refl
 
   -- a sink changes nothing of this
@@ -184,11 +249,11 @@ module _ (p q : Profile) (more : Extends q p) where
     abbrev judged : Live H → ℕ → Machine × Event → Result (Live H) Refusal
     judged l c x = live_from x.0 (l.at + 1) (event_effect after x.1 l.name c l.held)
 
-    byte_apart : (l : Live H) (c : ℕ) → Apart (λ w. Err (record { at = l.at + 1; why = w })) (live_byte after p limit l c) (live_byte after q limit l c)
+    byte_apart : (l : Live H) (c : ℕ) → Apart p q (λ w. Err (record { at = l.at + 1; why = w })) (live_byte after p limit l c) (live_byte after q limit l c)
     byte_apart l c = by (nat_lt l.at limit) (Err (record { at = limit + 1; why = why.TooLong }))
       where
-        by : (b : Bool) (long : Result (Live H) Refusal) → Apart (λ w. Err (record { at = l.at + 1; why = w })) (cond b (judged l c (step_of p l.machine c)) long) (cond b (judged l c (step_of q l.machine c)) long)
-        by true long = through (λ w. (machine.Refused w, event.Nothing)) (judged l c) (step_of p l.machine c) (step_of q l.machine c) (step_apart c l.machine)
+        by : (b : Bool) (long : Result (Live H) Refusal) → Apart p q (λ w. Err (record { at = l.at + 1; why = w })) (cond b (judged l c (step_of p l.machine c)) long) (cond b (judged l c (step_of q l.machine c)) long)
+        by true long = through p q (λ w. (machine.Refused w, event.Nothing)) (judged l c) (step_of p l.machine c) (step_of q l.machine c) (step_apart c l.machine)
         by false long = inl refl
 
     -- where the one was refused, the other has come so far
@@ -197,7 +262,7 @@ module _ (p q : Profile) (more : Extends q p) where
       live : (m : Live H) → y ≡ Ok m → at ≤ m.at
 
     abbrev RunApart : Result (Live H) Refusal → Result (Live H) Refusal → Type 0
-    RunApart x y = (x ≡ y) ⊎ ((r : Refusal) × (x ≡ Err r) × IsProfileName r.why × LaterThan r.at y)
+    RunApart x y = (x ≡ y) ⊎ ((r : Refusal) × (x ≡ Err r) × IsProfileName p q r.why × LaterThan r.at y)
 
     later : (l : Live H) (c : ℕ) (b : List ℕ) → l.at ≤ limit → LaterThan (l.at + 1) (decoder_after after q limit l (c ∷ b))
     later l c b low = record {
@@ -226,15 +291,15 @@ module _ (p q : Profile) (more : Extends q p) where
     end_later at (Ok m) h other e = let k = h.live m refl in let i = end_at m.held m.at other m.machine e in omega (arith, k, i)
     end_later at (Err r) h other e = h.refused other (let s : r ≡ other = cc in ap Err s)
 
-    pub answers_apart : (first : H) (b : List ℕ) → SameUpToProfile (answer_of after (record { profile = p; limit = limit; first = first }) b) (answer_of after (record { profile = q; limit = limit; first = first }) b)
+    pub answers_apart : (first : H) (b : List ℕ) → SameUpToProfile p q (answer_of after (record { profile = p; limit = limit; first = first }) b) (answer_of after (record { profile = q; limit = limit; first = first }) b)
     answers_apart first b = elim (decoder_apart b (live_at_start first) (omega arith)) [
       | inl e ↦ inl (ap (λ y. and_then y answer_at_end) e)
       | inr k ↦ inr (k.0, ap (λ y. and_then y answer_at_end) k.1, k.2, end_later k.0.at (decoder_after after q limit (live_at_start first) b) k.3)
     ]
 
 -- the same of what is made of an answer
-pub made_apart : {A B : Type 0} (f : A → B) (x y : Result A Refusal) → SameUpToProfile x y → SameUpToProfile (and_then x (λ a. Ok (f a))) (and_then y (λ a. Ok (f a)))
-made_apart {A} {B} f x y h = elim h [
+pub made_apart : {A B : Type 0} (p q : Profile) (f : A → B) (x y : Result A Refusal) → SameUpToProfile p q x y → SameUpToProfile p q (and_then x (λ a. Ok (f a))) (and_then y (λ a. Ok (f a)))
+made_apart {A} {B} p q f x y h = elim h [
   | inl e ↦ inl (ap (λ z. and_then z (λ a. Ok (f a))) e)
   | inr k ↦ inr (k.0, ap (λ z. and_then z (λ a. Ok (f a))) k.1, k.2, go k.0 y k.3)
 ]

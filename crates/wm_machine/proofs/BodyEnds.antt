@@ -190,12 +190,12 @@ parts_text event.InName text o = absurd o
 parts_text (event.EndsName k) text o = absurd o
 parts_text (event.EmptyName k) text o = absurd o
 
-in_entry : (left : ℕ) (q : InEntry) → StandsEntry left q → IsInEntry q
-in_entry left (entry.RunCount r) h = tt
-in_entry left (entry.Run more r) h = tt
-in_entry left (entry.Body e) h = h.0
-in_entry left entry.Over h = h
-in_entry left (entry.Failed w) h = h
+in_entry : (p : Profile) (left : ℕ) (q : InEntry) → StandsEntry p left q → IsInEntry q
+in_entry p left (entry.RunCount r) h = tt
+in_entry p left (entry.Run more r) h = tt
+in_entry p left (entry.Body e) h = h.0
+in_entry p left entry.Over h = h
+in_entry p left (entry.Failed w) h = h
 
 same_refused : (v w : Why) → machine.Refused v ≡ machine.Refused w → v ≡ w
 same_refused v w e = cc
@@ -256,7 +256,7 @@ module _ (p : Profile) where
 
   module _ (c : ℕ) (byte : c < 2 ^ 8) where
     -- a byte of an entry
-    entry_grows : (more : ℕ) (q : InEntry) (contents : List ℕ) → StandsEntry (suc more) q → ((b : List ℕ) (k : Marks) → EntryRest loose p q b k → IsEntry p (contents ++ b)) → (r : InEntry) → (entry_step p q c).0 ≡ r → (b : List ℕ) (k : Marks) → EntryRest loose p r b k
+    entry_grows : (more : ℕ) (q : InEntry) (contents : List ℕ) → StandsEntry p (suc more) q → ((b : List ℕ) (k : Marks) → EntryRest loose p q b k → IsEntry p (contents ++ b)) → (r : InEntry) → (entry_step p q c).0 ≡ r → (b : List ℕ) (k : Marks) → EntryRest loose p r b k
         → IsEntry p ((contents ++ c ∷ []) ++ b)
     entry_grows more q contents stands grows r is b k h =
         let x = entry_step p q c in
@@ -293,7 +293,7 @@ module _ (p : Profile) where
         }
         go (step.Bad, s) u = tt
 
-    entry_becomes : (more : ℕ) (q : InEntry) (b : List ℕ) → StandsEntry (suc more) q → Inside p (suc more) q b → Becomes (member_step p (at.Entry more q) c).0 (b ++ c ∷ [])
+    entry_becomes : (more : ℕ) (q : InEntry) (b : List ℕ) → StandsEntry p (suc more) q → Inside p (suc more) q b → Becomes (member_step p (at.Entry more q) c).0 (b ++ c ∷ [])
     entry_becomes more q b stands h = framed more (entry_step p q c).0 refl h.room
       where
         inside : (m : ℕ) (r : InEntry) → (entry_step p q c).0 ≡ r → h.bytes ≡ length h.contents + suc (suc m) → Inside p (suc m) r (b ++ c ∷ [])
@@ -320,7 +320,7 @@ module _ (p : Profile) where
         framed (suc m) (entry.Run l r) is room = inside m (entry.Run l r) is room
         framed (suc m) (entry.Body e) is room = inside m (entry.Body e) is room
 
-    member_becomes : (left : ℕ) (q : InMember) (b : List ℕ) → Stands left q → Placed q b → Becomes (member_step p q c).0 (b ++ c ∷ [])
+    member_becomes : (left : ℕ) (q : InMember) (b : List ℕ) → Stands p left q → Placed q b → Becomes (member_step p q c).0 (b ++ c ∷ [])
     member_becomes left (at.EntrySize r) b stands h = size_becomes r b h
     member_becomes left (at.Entry more q) b stands h = entry_becomes more q b stands.1 h
     member_becomes left q b stands h = outside_becomes (member_step p q c).0 (b ++ c ∷ []) (step_stays p c q tt)
@@ -403,7 +403,7 @@ module _ (p : Profile) where
         (λ _. cond_both (nat_lt n 4) _ _ P (λ _. tt) (λ _. tt)))
         (λ _. tt)
 
-    step_becomes : (m : Machine) (b : List ℕ) → Fits m → PlacedIn m b → BecomesIn (step_of p m c).0 (b ++ c ∷ [])
+    step_becomes : (m : Machine) (b : List ℕ) → Fits p m → PlacedIn m b → BecomesIn (step_of p m c).0 (b ++ c ∷ [])
     step_becomes (machine.Header n) b f h = header_so n c (b ++ c ∷ [])
     step_becomes (machine.Between last functions) b f h = start_so last functions c (b ++ c ∷ [])
     step_becomes (machine.CustomSize last functions r) b f h = number_so (unsigned_push 32 r c) (λ s. machine.CustomSize last functions s) (λ n. (custom_size last functions n, event.Nothing)) (b ++ c ∷ []) (λ s. tt) (λ n. custom_so last functions n (custom.Length fresh) (b ++ c ∷ []))
@@ -434,7 +434,7 @@ module _ (p : Profile) where
   placed b (machine.Section of functions more left q) h e = tt
   placed b m h e = tt
 
-  placed_run : (before : List ℕ) (s : MachineState) → state_after p state_at_start before ≡ s → Fits s.machine → PlacedIn s.machine before → (b : List ℕ) → AreBytes b → PlacedIn (state_after p s b).machine (before ++ b)
+  placed_run : (before : List ℕ) (s : MachineState) → state_after p state_at_start before ≡ s → Fits p s.machine → PlacedIn s.machine before → (b : List ℕ) → AreBytes b → PlacedIn (state_after p s b).machine (before ++ b)
   placed_run before s e f h [] a = subst (λ z. PlacedIn s.machine z) (sym (append-nil before)) h
   placed_run before s e f h (c ∷ b) a =
       let t : MachineState = after_byte p s c in
@@ -483,7 +483,7 @@ module _ (p : Profile) where
         go (step.Done (suc n), s) u e = absurd (cc)
         go (step.Bad, s) u e = absurd (cc)
 
-    entry_ends : (more : ℕ) (q : InEntry) → CanEnter (suc more) q → Inside p (suc more) q b → (member_step p (at.Entry more q) c).0 ≡ at.Failed why.BodyEnd → OtherBodySize p (b ++ c ∷ [])
+    entry_ends : (more : ℕ) (q : InEntry) → CanEnter p (suc more) q → Inside p (suc more) q b → (member_step p (at.Entry more q) c).0 ≡ at.Failed why.BodyEnd → OtherBodySize p (b ++ c ∷ [])
     entry_ends more q can h = framed more (entry_step p q c).0 refl h.room
       where
         few : more < 2 ^ 32
@@ -504,17 +504,17 @@ module _ (p : Profile) where
           wrong = wrong;
         }
 
-        goes : (r : InEntry) → (entry_step p q c).0 ≡ r → StandsEntry more r → h.bytes ≡ length h.contents + 1 → OtherBodySize p (b ++ c ∷ [])
+        goes : (r : InEntry) → (entry_step p q c).0 ≡ r → StandsEntry p more r → h.bytes ≡ length h.contents + 1 → OtherBodySize p (b ++ c ∷ [])
         goes r is stands room =
             let s : Comes (EntryRest loose p r) = some_of_entry p more r stands in
-            let some : s.bytes ≢ [] = λ e. entry_has strict p r (in_entry more r stands) tt s.marks (subst (λ z. EntryRest loose p r z s.marks) e s.spelled) in
+            let some : s.bytes ≢ [] = λ e. entry_has strict p r (in_entry p more r stands) tt s.marks (subst (λ z. EntryRest loose p r z s.marks) e s.spelled) in
             other (inl ((omega (arith, room, length-append h.contents (c ∷ []))), (s.bytes, some, grows r is s.bytes s.marks s.spelled)))
 
-        may : (r : InEntry) → (entry_step p q c).0 ≡ r → MayEnter more r
-        may r is = subst (MayEnter more) is (entry_may more few p q c byte can.1)
+        may : (r : InEntry) → (entry_step p q c).0 ≡ r → MayEnter p more r
+        may r is = subst (MayEnter p more) is (entry_may p more few q c byte can.1)
 
         framed : (n : ℕ) (r : InEntry) → (entry_step p q c).0 ≡ r → h.bytes ≡ length h.contents + suc n → member_in_entry n r ≡ at.Failed why.BodyEnd → OtherBodySize p (b ++ c ∷ [])
-        framed n (entry.Failed w) is room e = absurd (not_past_body c p q (in_entry (suc more) q can.1) (is ∙ ap entry.Failed (same_failed w why.BodyEnd e)))
+        framed n (entry.Failed w) is room e = absurd (not_past_body c p q (in_entry p (suc more) q can.1) (is ∙ ap entry.Failed (same_failed w why.BodyEnd e)))
         framed zero entry.Over is room e = absurd (cc)
         framed (suc m) entry.Over is room e = other (inr ((omega (arith, room, length-append h.contents (c ∷ []))), subst (IsEntry p) (append-nil (h.contents ++ c ∷ [])) (grows entry.Over is [] [] (refl, refl))))
         framed zero (entry.RunCount r) is room e = goes (entry.RunCount r) is (may (entry.RunCount r) is).1 room
@@ -524,12 +524,12 @@ module _ (p : Profile) where
         framed (suc m) (entry.Run l r) is room e = absurd (cc)
         framed (suc m) (entry.Body x) is room e = absurd (cc)
 
-    member_ends : (left : ℕ) (q : InMember) → Stands left q → Placed q b → (member_step p q c).0 ≡ at.Failed why.BodyEnd → OtherBodySize p (b ++ c ∷ [])
+    member_ends : (left : ℕ) (q : InMember) → Stands p left q → Placed q b → (member_step p q c).0 ≡ at.Failed why.BodyEnd → OtherBodySize p (b ++ c ∷ [])
     member_ends left (at.EntrySize r) stands h e = size_ends r h e
     member_ends left (at.Entry more q) stands h e = entry_ends more q stands h e
     member_ends left q stands h e = absurd (not_body_end c p q tt e)
 
-    machine_ends : (m : Machine) → Fits m → (IsRefused m → ⊥) → PlacedIn m b → (step_of p m c).0 ≡ machine.Refused why.BodyEnd → OtherBodySize p (b ++ c ∷ [])
+    machine_ends : (m : Machine) → Fits p m → (IsRefused m → ⊥) → PlacedIn m b → (step_of p m c).0 ≡ machine.Refused why.BodyEnd → OtherBodySize p (b ++ c ∷ [])
     machine_ends (machine.Header n) f live h = λ e. absurd (header_not n c e)
     machine_ends m f live h =
         let X : Type 0 = OtherBodySize p (b ++ c ∷ []) in
@@ -537,11 +537,11 @@ module _ (p : Profile) where
         step_at P (λ n i e. absurd (not_live n why.BodyEnd i e)) (λ e. absurd (cc)) (λ e. absurd (cc)) (λ e. absurd (cc)) (λ e. absurd (cc)) (λ e. absurd (cc)) p m c
         (λ i. i) (λ w s e. absurd (live (subst IsRefused (sym s) tt)))
         (λ q w s e. absurd (custom_not q c (s ∙ ap custom.Failed (same_refused w why.BodyEnd e))))
-        (λ of functions more left q w s i e. in_section of functions more left q (subst Fits s f) (subst (λ n. PlacedIn n b) s h) (i ∙ ap at.Failed (same_refused w why.BodyEnd e)))
+        (λ of functions more left q w s i e. in_section of functions more left q (subst (Fits p) s f) (subst (λ n. PlacedIn n b) s h) (i ∙ ap at.Failed (same_refused w why.BodyEnd e)))
       where
-        in_section : (of : SectionKind) (functions more left : ℕ) (q : InMember) → Fits (machine.Section of functions more left q) → Placed q b → (member_step p q c).0 ≡ at.Failed why.BodyEnd → OtherBodySize p (b ++ c ∷ [])
+        in_section : (of : SectionKind) (functions more left : ℕ) (q : InMember) → Fits p (machine.Section of functions more left q) → Placed q b → (member_step p q c).0 ≡ at.Failed why.BodyEnd → OtherBodySize p (b ++ c ∷ [])
         in_section of functions more left q f h e = member_ends (suc more) q f.2.1 h e
 
-    pub other_body_size : (m : Machine) (y : List ℕ) → record { machine = m; name = y } ≡ state_after p state_at_start b → Fits m → (IsRefused m → ⊥) → (step_of p m c).0 ≡ machine.Refused why.BodyEnd → OtherBodySize p (b ++ c ∷ [])
+    pub other_body_size : (m : Machine) (y : List ℕ) → record { machine = m; name = y } ≡ state_after p state_at_start b → Fits p m → (IsRefused m → ⊥) → (step_of p m c).0 ≡ machine.Refused why.BodyEnd → OtherBodySize p (b ++ c ∷ [])
     other_body_size m y same f live e =
         machine_ends m f live (subst (λ (s : MachineState). PlacedIn s.machine b) (sym same) (placed_run [] state_at_start refl begin_fits tt b bytes)) e

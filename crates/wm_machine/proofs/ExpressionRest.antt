@@ -40,11 +40,11 @@ IsInside (expression.Failed w) = ⊥
 module _ (p : Profile) (part : Op → Item) where
   -- ops up to the end, with so many blocks open and so many labels to come
   abbrev pub OpsFrom : (depth labels : ℕ) → MarkedForm
-  OpsFrom depth labels b k = (ops : List Op) × Ends depth labels ops × AllByRecursion (IsOpOf p) ops × EachOp part ops b k
+  OpsFrom depth labels b k = (ops : List Op) × Ends depth labels ops × AllByRecursion (IsOpOf p) ops × EachOp p part ops b k
 
   -- the same after an op
   abbrev pub OpsAfter : ℕ → Op → MarkedForm
-  OpsAfter depth o b k = (ops : List Op) × Ends depth 0 (o ∷ ops) × AllByRecursion (IsOpOf p) ops × EachOp part ops b k
+  OpsAfter depth o b k = (ops : List Op) × Ends depth 0 (o ∷ ops) × AllByRecursion (IsOpOf p) ops × EachOp p part ops b k
 
   abbrev pub label_part : ℕ → Option Item
   label_part l = Some (part (op.Label l))
@@ -86,7 +86,7 @@ not_label depth _ ops e = tt
 
 module _ (demanded : Type 0) (p : Profile) (part : Op → Item) where
   -- the next op
-  opened_to : (depth : ℕ) (b : List ℕ) (k : Marks) (ops : List Op) → Ends depth 0 ops → AllByRecursion (IsOpOf p) ops → EachOp part ops b k → ExpressionRest p part (at_next_op depth) b k
+  opened_to : (depth : ℕ) (b : List ℕ) (k : Marks) (ops : List Op) → Ends depth 0 ops → AllByRecursion (IsOpOf p) ops → EachOp p part ops b k → ExpressionRest p part (at_next_op depth) b k
   opened_to depth b k [] e a h = absurd e
   opened_to depth b k (o ∷ ops) e a h = let f = h.first in record {
     value = o;
@@ -120,7 +120,7 @@ module _ (demanded : Type 0) (p : Profile) (part : Op → Item) where
   opened_same depth = record { to = λ s b k h. opened_to depth b k h.0 h.1 h.2 h.3; from = opened_from depth }
 
   -- the next label
-  label_to : (depth n : ℕ) (b : List ℕ) (k : Marks) (ops : List Op) → Ends depth (suc n) ops → AllByRecursion (IsOpOf p) ops → EachOp part ops b k → ExpressionRest p part (expression.Label depth n fresh) b k
+  label_to : (depth n : ℕ) (b : List ℕ) (k : Marks) (ops : List Op) → Ends depth (suc n) ops → AllByRecursion (IsOpOf p) ops → EachOp p part ops b k → ExpressionRest p part (expression.Label depth n fresh) b k
   label_to depth n b k [] e a h = absurd e
   label_to depth n b k (op.Label l ∷ ops) e a h = let f = h.first in record {
     n = l;
@@ -156,7 +156,7 @@ module _ (demanded : Type 0) (p : Profile) (part : Op → Item) where
 
   -- after an op, and after a label
   over_same : Same demanded (OpsAfter p part 0 op.End) Empty
-  over_same = record { to = λ s b k h. subst (λ y. EachOp part y b k) h.1 h.3; from = λ b k h. ([], refl, tt, h) }
+  over_same = record { to = λ s b k h. subst (λ y. EachOp p part y b k) h.1 h.3; from = λ b k h. ([], refl, tt, h) }
 
   deeper_same : (depth : ℕ) → depth + 1 < 2 ^ 32 → Same demanded (OpsFrom p part (suc depth) 0) (ExpressionRest p part (at_next_op (deeper depth)))
   deeper_same depth h = subst (λ y. Same demanded (OpsFrom p part (suc depth) 0) (ExpressionRest p part (at_next_op y))) (sym (deeper_is depth h)) (opened_same (suc depth))

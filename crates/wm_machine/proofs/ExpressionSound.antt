@@ -13,7 +13,7 @@ use Rattle.wm_syntax.specs.declared.numbers.Step.TheVariants as step
 use Rattle.wm_syntax.specs.inner.Numbers.{Partial}
 use Rattle.wm_syntax.specs.exact.Reading.{fresh, unsigned_push}
 use Rattle.wm_syntax.specs.Profiles.{IsOpOf}
-use Rattle.wm_syntax.specs.Instructions.{SpellsOp}
+use Rattle.wm_syntax.specs.Encodings.{SpellsOp}
 use Rattle.wm_machine.specs.declared.step.reading.Reading.{Reading}
 use Rattle.wm_machine.specs.declared.step.reading.Reading.TheVariants.{More, Done, Bad}
 use Rattle.wm_machine.specs.declared.step.ops.InOp.{InOp}
@@ -34,58 +34,58 @@ use Rattle.wm_machine.proofs.ExpressionRest.{OpsFrom, OpsAfter, label_part, Expr
 
 -- The states in which something may still come, where so many bytes are left at most: a block is opened by a byte at
 -- least, so that the open ones can be counted.
-abbrev pub SoundExpression : ℕ → InExpression → Type 0
-SoundExpression left (expression.Op depth at) = SoundOp at × (depth + left < 2 ^ 32)
-SoundExpression left (expression.Label depth labels r) = HasRoom 32 r × (depth + left < 2 ^ 32)
-SoundExpression left expression.Over = Unit {0}
-SoundExpression left (expression.Failed w) = ⊥
+abbrev pub SoundExpression : Profile → ℕ → InExpression → Type 0
+SoundExpression p left (expression.Op depth at) = SoundOp p at × (depth + left < 2 ^ 32)
+SoundExpression p left (expression.Label depth labels r) = HasRoom 32 r × (depth + left < 2 ^ 32)
+SoundExpression p left expression.Over = Unit {0}
+SoundExpression p left (expression.Failed w) = ⊥
 
 -- the same of what a byte leaves, which may have failed
-abbrev pub FineExpression : ℕ → InExpression → Type 0
-FineExpression left (expression.Failed w) = Unit {0}
-FineExpression left at = SoundExpression left at
+abbrev pub FineExpression : Profile → ℕ → InExpression → Type 0
+FineExpression p left (expression.Failed w) = Unit {0}
+FineExpression p left at = SoundExpression p left at
 
-pub start_sound : (left : ℕ) → left < 2 ^ 32 → SoundExpression left start
-start_sound left h = (tt, omega (arith, h))
+pub start_sound : (p : Profile) (left : ℕ) → left < 2 ^ 32 → SoundExpression p left start
+start_sound p left h = (tt, omega (arith, h))
 
-pub sound_opens : (left : ℕ) (at : InExpression) → SoundExpression (suc left) at → CanOpen at
-sound_opens left (expression.Op depth at) h = omega (arith, h.1)
-sound_opens left (expression.Label depth labels r) h = tt
-sound_opens left expression.Over h = tt
-sound_opens left (expression.Failed w) h = tt
+pub sound_opens : (p : Profile) (left : ℕ) (at : InExpression) → SoundExpression p (suc left) at → CanOpen at
+sound_opens p left (expression.Op depth at) h = omega (arith, h.1)
+sound_opens p left (expression.Label depth labels r) h = tt
+sound_opens p left expression.Over h = tt
+sound_opens p left (expression.Failed w) h = tt
 
 deeper_most : (depth : ℕ) → deeper depth ≤ suc depth
 deeper_most depth = cond_both (nat_lt depth (2 ^ 32 - 1)) (suc depth) depth (λ y. y ≤ suc depth) (λ _. omega arith) (λ _. omega arith)
 
-after_fine : (left depth : ℕ) (o : Op) → depth + suc left < 2 ^ 32 → FineExpression left (after_op depth o)
-after_fine left depth (op.Block t) h = (tt, omega (arith, h, deeper_most depth))
-after_fine left depth (op.Loop t) h = (tt, omega (arith, h, deeper_most depth))
-after_fine left depth (op.If t) h = (tt, omega (arith, h, deeper_most depth))
-after_fine left zero op.End h = tt
-after_fine left (suc d) op.End h = (tt, omega (arith, h))
-after_fine left depth (op.BrTable n) h = (fresh_32, omega (arith, h))
-after_fine left depth op.Else h = (tt, omega (arith, h))
-after_fine left depth (op.Simple i) h = (tt, omega (arith, h))
-after_fine left depth (op.Label l) h = (tt, omega (arith, h))
+after_fine : (p : Profile) (left depth : ℕ) (o : Op) → depth + suc left < 2 ^ 32 → FineExpression p left (after_op depth o)
+after_fine p left depth (op.Block t) h = (tt, omega (arith, h, deeper_most depth))
+after_fine p left depth (op.Loop t) h = (tt, omega (arith, h, deeper_most depth))
+after_fine p left depth (op.If t) h = (tt, omega (arith, h, deeper_most depth))
+after_fine p left zero op.End h = tt
+after_fine p left (suc d) op.End h = (tt, omega (arith, h))
+after_fine p left depth (op.BrTable n) h = (fresh_32, omega (arith, h))
+after_fine p left depth op.Else h = (tt, omega (arith, h))
+after_fine p left depth (op.Simple i) h = (tt, omega (arith, h))
+after_fine p left depth (op.Label l) h = (tt, omega (arith, h))
 
-after_label_fine : (left depth labels : ℕ) → depth + suc left < 2 ^ 32 → FineExpression left (after_label depth labels)
-after_label_fine left depth zero h = (tt, omega (arith, h))
-after_label_fine left depth (suc n) h = (fresh_32, omega (arith, h))
+after_label_fine : (p : Profile) (left depth labels : ℕ) → depth + suc left < 2 ^ 32 → FineExpression p left (after_label depth labels)
+after_label_fine p left depth zero h = (tt, omega (arith, h))
+after_label_fine p left depth (suc n) h = (fresh_32, omega (arith, h))
 
-op_sound : (left depth : ℕ) (a : Reading InOp Op) → depth + suc left < 2 ^ 32 → FineOp a → FineExpression left (after_reading depth a).0
-op_sound left depth (More s) h f = (f, omega (arith, h))
-op_sound left depth (Done o) h f = after_fine left depth o h
-op_sound left depth (Bad w) h f = tt
+op_sound : (p : Profile) (left depth : ℕ) (a : Reading InOp Op) → depth + suc left < 2 ^ 32 → FineOp p a → FineExpression p left (after_reading depth a).0
+op_sound p left depth (More s) h f = (f, omega (arith, h))
+op_sound p left depth (Done o) h f = after_fine p left depth o h
+op_sound p left depth (Bad w) h f = tt
 
-label_sound : (left depth labels : ℕ) (q : Step ℕ × Partial) → depth + suc left < 2 ^ 32 → RoomAfter 32 q
-    → FineExpression left (on_answer q (λ s. (expression.Label depth labels s, None)) (λ l. (after_label depth labels, Some (op.Label l))) (expression_failed why.BadNumber)).0
-label_sound left depth labels (step.More, s) h f = (f, omega (arith, h))
-label_sound left depth labels (step.Done v, s) h f = after_label_fine left depth labels h
-label_sound left depth labels (step.Bad, s) h f = tt
+label_sound : (p : Profile) (left depth labels : ℕ) (q : Step ℕ × Partial) → depth + suc left < 2 ^ 32 → RoomAfter 32 q
+    → FineExpression p left (on_answer q (λ s. (expression.Label depth labels s, None)) (λ l. (after_label depth labels, Some (op.Label l))) (expression_failed why.BadNumber)).0
+label_sound p left depth labels (step.More, s) h f = (f, omega (arith, h))
+label_sound p left depth labels (step.Done v, s) h f = after_label_fine p left depth labels h
+label_sound p left depth labels (step.Bad, s) h f = tt
 
-pub expression_sound : (p : Profile) (left : ℕ) (at : InExpression) (c : ℕ) → c < 2 ^ 8 → SoundExpression (suc left) at → FineExpression left (expression_step p at c).0
-expression_sound p left (expression.Op depth at) c byte h = op_sound left depth (op_push p at c) h.1 (op_fine p at c byte h.0)
-expression_sound p left (expression.Label depth labels r) c byte h = label_sound left depth labels (unsigned_push 32 r c) h.1 (unsigned_room 32 r c h.0 byte)
+pub expression_sound : (p : Profile) (left : ℕ) (at : InExpression) (c : ℕ) → c < 2 ^ 8 → SoundExpression p (suc left) at → FineExpression p left (expression_step p at c).0
+expression_sound p left (expression.Op depth at) c byte h = op_sound p left depth (op_push p at c) h.1 (op_fine p at c byte h.0)
+expression_sound p left (expression.Label depth labels r) c byte h = label_sound p left depth labels (unsigned_push 32 r c) h.1 (unsigned_room 32 r c h.0 byte)
 expression_sound p left expression.Over c byte h = tt
 expression_sound p left (expression.Failed w) c byte h = tt
 
@@ -94,7 +94,7 @@ module _ (p : Profile) (part : Op → Item) where
   abbrev Comes : MarkedForm → Type 0
   Comes P = (b : List ℕ) × (k : Marks) × P b k
 
-  first_op : (o : Op) (depth labels : ℕ) (ops : List Op) (front b : List ℕ) (k : Marks) → SpellsOp o front → IsOpOf p o → Ends depth labels (o ∷ ops) → AllByRecursion (IsOpOf p) ops → EachOp part ops b k → Comes (OpsFrom p part depth labels)
+  first_op : (o : Op) (depth labels : ℕ) (ops : List Op) (front b : List ℕ) (k : Marks) → SpellsOp p o front → IsOpOf p o → Ends depth labels (o ∷ ops) → AllByRecursion (IsOpOf p) ops → EachOp p part ops b k → Comes (OpsFrom p part depth labels)
   first_op o depth labels ops front b k s i e a h = (
     front ++ b,
     marks_ending (Some (part o)) front ++ k,
@@ -131,7 +131,7 @@ module _ (p : Profile) (part : Op → Item) where
   some_after depth (op.Simple i) n = some_ops depth 0
   some_after depth (op.Label l) n = absurd n
 
-  pub some_expression : (left : ℕ) (at : InExpression) → SoundExpression left at → (b : List ℕ) × (k : Marks) × ExpressionRest p part at b k
+  pub some_expression : (left : ℕ) (at : InExpression) → SoundExpression p left at → (b : List ℕ) × (k : Marks) × ExpressionRest p part at b k
   some_expression left (expression.Op depth at) h =
       let s : (o : Op) × (b : List ℕ) × op_rest p at o b = some_op p at h.0 in
       let g = some_after depth s.0 (rest_named p at s.0 s.1 s.2) in

@@ -1,7 +1,7 @@
 -- The bytes of a float as its reader takes them, the lowest first, and as they are spelled.
 use Rattle.std.proofs.Common.{◌≡◌, ℕ, zero, suc, ◌+◌, ◌*◌, ◌/◌, ◌%◌, ◌^◌, ◌<◌, List, [], ◌∷◌, ◌++◌, refl, sym, ap, ◌∙◌, subst, arith, mul_assoc, pow-suc}
 use Rattle.wm_syntax.specs.Spelling.{Form}
-use Rattle.wm_syntax.specs.Instructions.{SpellsFloat}
+use Rattle.wm_syntax.specs.Encodings.{SpellsFloat}
 use Rattle.wm_machine.specs.exact.OpSteps.{pushed}
 use Rattle.wm_machine.proofs.FirstBytes.{not_nil}
 

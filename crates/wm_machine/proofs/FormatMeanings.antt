@@ -270,7 +270,7 @@ section_says p m c used i other =
     (λ of functions more r s. absurd (other (subst IsCount (sym s) tt)))
     (λ q w e. by_name used w (custom_says used c q w e)) (λ of functions more left q w s e. by_name used w (member_says used p c q w e))
 
-pub step_says : (p : Profile) (m : Machine) (c : ℕ) (b : List ℕ) → c < 2 ^ 8 → (IsRefused m → ⊥) → Fits m → Framed m b → Says (b ++ c ∷ []) (step_of p m c).0
+pub step_says : (p : Profile) (m : Machine) (c : ℕ) (b : List ℕ) → c < 2 ^ 8 → (IsRefused m → ⊥) → Fits p m → Framed m b → Says (b ++ c ∷ []) (step_of p m c).0
 unfolding one_byte
 step_says p (machine.Header n) c b byte live fit f = header_says n c b f.0 f.1
 step_says p (machine.Between last functions) c b byte live fit f = start_says last functions c b f.0 f.1 fit
@@ -301,10 +301,10 @@ by_rule p limit used rest why.BadNumber i = absurd i
 by_rule p limit used rest w i = tt
 
 -- what is found of the last byte
-found : (p : Profile) (b : List ℕ) (a : AreBytes b) (c : ℕ) (IsWrong : Wanted → ℕ → Type 0) → Found (InInput p b a c) IsWrong c → WrongByte p IsWrong (b ++ c ∷ [])
-found p b a c IsWrong s = record { before = b; byte = c; whole = refl; wanted = s.0; place = s.1.0; none = s.1.1; wrong = s.2 }
+found : (p : Profile) (b : List ℕ) (a : AreBytes b) (c : ℕ) (IsWrong : List ℕ → Wanted → ℕ → Type 0) → Found (InInput p b a c) (IsWrong b) c → WrongByte p IsWrong (b ++ c ∷ [])
+found p b a c IsWrong s = record { before = b; byte = c; whole = refl; wanted = s.0; some = s.1.1.some; place = s.1.0; none = s.1.1.none; wrong = s.2 }
 
-by_machine : (p : Profile) (limit : ℕ) (b rest : List ℕ) (a : AreBytes b) (c : ℕ) (w : Why) → MachineSays (b ++ c ∷ []) w → SaysOfByte (InInput p b a c) c w → (w ≡ why.SectionEnd → OtherSize p (b ++ c ∷ [])) → (w ≡ why.BodyEnd → OtherBodySize p (b ++ c ∷ [])) → (w ≡ why.BadNumber → WrongNumber p (b ++ c ∷ [])) → MeansOfFormat p limit (b ++ c ∷ []) rest w
+by_machine : (p : Profile) (limit : ℕ) (b rest : List ℕ) (a : AreBytes b) (c : ℕ) (w : Why) → MachineSays (b ++ c ∷ []) w → SaysOfByte b (InInput p b a c) c w → (w ≡ why.SectionEnd → OtherSize p (b ++ c ∷ [])) → (w ≡ why.BodyEnd → OtherBodySize p (b ++ c ∷ [])) → (w ≡ why.BadNumber → WrongNumber p (b ++ c ∷ [])) → MeansOfFormat p limit (b ++ c ∷ []) rest w
 by_machine p limit b rest a c why.Magic h s cut body number = h
 by_machine p limit b rest a c why.Version h s cut body number = h
 by_machine p limit b rest a c why.SectionId h s cut body number = h
@@ -440,10 +440,10 @@ module _ {H : Type 0} (after : H → Item → Result H Why) (s : Setting H) (nam
       let f = run_framed s.profile state_at_start [] b bytes (omega arith, refl) in
       subst (λ (m : MachineState). Framed m.machine b) (sym q.state) f
 
-  fits : (b : List ℕ) (l : Live H) → AreBytes b → Decoded b ≡ Ok l → Fits l.machine
+  fits : (b : List ℕ) (l : Live H) → AreBytes b → Decoded b ≡ Ok l → Fits s.profile l.machine
   fits b l bytes e =
       let q = reached after s.profile s.limit b Starts l e in
-      subst (λ (m : MachineState). Fits m.machine) (sym q.state) (run_fits s.profile state_at_start b bytes begin_fits)
+      subst (λ (m : MachineState). Fits s.profile m.machine) (sym q.state) (run_fits s.profile state_at_start b bytes begin_fits)
 
   held_so : (b : List ℕ) (l : Live H) → Decoded b ≡ Ok l → (parts : List Item) × (all_taken after s.first parts ≡ Ok l.held)
   held_so b l e =
@@ -470,26 +470,26 @@ module _ {H : Type 0} (after : H → Item → Result H Why) (s : Setting H) (nam
       }
     where
       go : (u : Used after s.profile s.limit Starts b r) → AreBytes u.used → u.byte < 2 ^ 8 → r.at ≡ length (u.used ++ u.byte ∷ []) → state_of after s.profile s.limit u.before ≡ state_after s.profile state_at_start u.used
-          → (IsRefused u.before.machine → ⊥) → Fits u.before.machine → Framed u.before.machine u.used → ((parts : List Item) × (all_taken after s.first parts ≡ Ok u.before.held)) → Cause after s.profile s.limit u.before u.byte r
+          → (IsRefused u.before.machine → ⊥) → Fits s.profile u.before.machine → Framed u.before.machine u.used → ((parts : List Item) × (all_taken after s.first parts ≡ Ok u.before.held)) → Cause after s.profile s.limit u.before u.byte r
           → MeansOfFormat s.profile s.limit (u.used ++ u.byte ∷ []) (u.rest ++ more) r.why
       go u bytes byte place same live fit f parts (too_long at w) = subst (λ y. MeansOfFormat s.profile s.limit (u.used ++ u.byte ∷ []) (u.rest ++ more) y) (sym w) (sym place ∙ at)
       go u bytes byte place same live fit f parts (by_text t w) =
           subst (λ y. MeansOfFormat s.profile s.limit (u.used ++ u.byte ∷ []) (u.rest ++ more) y) (sym w) (bad_name s.profile u.used bytes u.byte u.before.machine u.before.name t.0 (sym same) t.1 t.2)
       go u bytes byte place same live fit f parts (by_step m text) =
           by_machine s.profile s.limit u.used (u.rest ++ more) bytes u.byte r.why (step_says s.profile u.before.machine u.byte u.used byte live fit f r.why m)
-          (byte_says s.profile u.used bytes u.byte byte u.before.machine (ap (λ (m : MachineState). m.machine) same) live r.why m)
+          (byte_says s.profile u.used bytes u.byte byte u.before.machine (ap (λ (m : MachineState). m.machine) same) fit live r.why m)
           (λ w. other_size s.profile u.used bytes u.byte byte u.before.machine u.before.name same fit live f text (m ∙ ap machine.Refused w))
           (λ w. other_body_size s.profile u.used bytes u.byte byte u.before.machine u.before.name same fit live (m ∙ ap machine.Refused w))
           (λ w. wrong_number s.profile u.used bytes u.byte byte u.before.machine (ap (λ (m : MachineState). m.machine) same) live (m ∙ ap machine.Refused w))
       go u bytes byte place same live fit f parts (by_item x e) = by_rule s.profile s.limit (u.used ++ u.byte ∷ []) (u.rest ++ more) r.why (names parts.0 u.before.held x r.why parts.1 e)
 
-  at_end : (m : Machine) (h : H) (at : ℕ) (b : List ℕ) (r : Refusal) → (IsRefused m → ⊥) → Fits m → Framed m b → answer_at_end_of m h at ≡ Err r → MeansOfFormat s.profile s.limit b [] r.why
+  at_end : (m : Machine) (h : H) (at : ℕ) (b : List ℕ) (r : Refusal) → (IsRefused m → ⊥) → Fits s.profile m → Framed m b → answer_at_end_of m h at ≡ Err r → MeansOfFormat s.profile s.limit b [] r.why
   at_end m h at b r live fit f e = go m live fit f e
     where
       named : (w : Why) → record { at = at; why = w } ≡ r → MeansOfFormat s.profile s.limit b [] w → MeansOfFormat s.profile s.limit b [] r.why
       named w is x = subst (λ y. MeansOfFormat s.profile s.limit b [] y) (ap (λ (y : Refusal). y.why) is) x
 
-      go : (m : Machine) → (IsRefused m → ⊥) → Fits m → Framed m b → answer_at_end_of m h at ≡ Err r → MeansOfFormat s.profile s.limit b [] r.why
+      go : (m : Machine) → (IsRefused m → ⊥) → Fits s.profile m → Framed m b → answer_at_end_of m h at ≡ Err r → MeansOfFormat s.profile s.limit b [] r.why
       go (machine.Refused w) live fit f e = absurd (live tt)
       go (machine.Between last zero) live fit f e = absurd (cc)
       go (machine.Between last (suc n)) live fit f e = named why.CodeCount (cc (e)) (inr (no_code last (suc n) b f.0 f.1 fit (omega arith) b [] (inl (refl, refl))))

@@ -87,10 +87,10 @@ module _ (p : Profile) where
   pub some_size : (of : SectionKind) (f n : ℕ) → Comes (InSize loose p of f n)
   some_size of f n = some_then (Sized loose n (Contents loose p f (id_of of))) (After loose p of f) (some_sized n (Contents loose p f (id_of of)) (some_contents of f)) (some_after of f)
 
-  some_within : (of : SectionKind) (left more : ℕ) (q : InMember) (y : List ℕ) → CanGo more q → Comes (Within loose p of left q y)
+  some_within : (of : SectionKind) (left more : ℕ) (q : InMember) (y : List ℕ) → CanGo p more q → Comes (Within loose p of left q y)
   some_within of left more q y go = some_then (ComponentRest loose p q y) (Times left (OneOf loose p of)) (some_component p more q y go) (some_times left (OneOf loose p of) (some_one p of))
 
-  pub some_machine : (m : Machine) (y : List ℕ) → Fits m → (IsRefused m → ⊥) → Comes (MachineRest loose p m y)
+  pub some_machine : (m : Machine) (y : List ℕ) → Fits p m → (IsRefused m → ⊥) → Comes (MachineRest loose p m y)
   some_machine (machine.Header n) y h live = let l = some_later 0 0 in
       record { bytes = drop n header ++ l.bytes; marks = marks_ending None (drop n header) ++ l.marks; spelled = (h, record { front = drop n header; back = l.bytes; front_marks = marks_ending None (drop n header); back_marks = l.marks; bytes = refl; marks = refl; first = (refl, refl); second = l.spelled }) }
   some_machine (machine.Between last functions) y h live = some_later last functions

@@ -14,7 +14,8 @@ use Rattle.wm_syntax.specs.declared.profile.Profile.{Profile}
 use Rattle.wm_syntax.specs.Spelling.{Form, Byte as OneByte, Exactly, AreBytes, Each, ◌▸◌}
 use Rattle.wm_syntax.specs.Types.{SpellsU32, SpellsList, SpellsBytes, SpellsName, SpellsValType, SpellsSignature, SpellsLimits, SpellsBounds, SpellsTableType, SpellsGlobalType, type_byte}
 use Rattle.wm_syntax.specs.Profiles.{HasDesc, HasSignature, HasType}
-use Rattle.wm_syntax.specs.Instructions.{SpellsOp}
+use Rattle.wm_syntax.specs.Encodings.{SpellsOpcode, SpellsOp}
+use Rattle.wm_syntax.proofs.CodeBytes.{code_forms}
 use Rattle.wm_syntax.specs.Opcodes.{opcode}
 use Rattle.wm_machine.specs.Sections.{Section as SectionForm, Those, ListSection, StartSection, Customs as CustomForms, SpellsCustom, SpellsDesc, SpellsImport, SpellsExport, SpellsRun, kind_byte, header}
 use Rattle.wm_machine.specs.Items.{Item, Marks, items_at, new_type, param, result_count, one_result, import_module, import_name, import_desc, function, table, memory, global, const_op, export_name, export, start, element, element_function, body, body_op, segment, data_byte}
@@ -80,42 +81,48 @@ global_some : (g : GlobalType) (b : List ℕ) → SpellsGlobalType g b → HasBy
 global_some g b h = front_some b h.0 h.1 h.2 (byte_some (type_byte g.ty) h.0 h.3)
 
 -- expressions
-op_some : (o : Op) (b : List ℕ) → SpellsOp o b → HasByte b
-op_some (op.Simple i) b h = front_some b h.0 h.1 h.2 (byte_some (opcode i).0 h.0 h.3)
-op_some (op.Block t) b h = front_some b h.0 h.1 h.2 (byte_some 0x02 h.0 h.3)
-op_some (op.Loop t) b h = front_some b h.0 h.1 h.2 (byte_some 0x03 h.0 h.3)
-op_some (op.If t) b h = front_some b h.0 h.1 h.2 (byte_some 0x04 h.0 h.3)
-op_some op.Else b h = byte_some 0x05 b h
-op_some op.End b h = byte_some 0x0B b h
-op_some (op.BrTable n) b h = front_some b h.0 h.1 h.2 (byte_some 0x0E h.0 h.3)
-op_some (op.Label l) b h = number_some l b h
+code_some : (c : ℕ) (b : List ℕ) → SpellsOpcode c b → HasByte b
+code_some c b h = elim (code_forms c b h) [
+  | inl f ↦ byte_some c b f.1
+  | inr f ↦ (let g = f.1 in front_some b g.0 g.1 g.2 (byte_some 0xFC g.0 g.3))
+]
 
-module _ (part : Op → Item) where
-  ops_to : (ops : List Op) (b : List ℕ) (k : Marks) → EachOp part ops b k → Each SpellsOp ops b × (items_at k ≡ map part ops)
+pub op_some : (p : Profile) (o : Op) (b : List ℕ) → SpellsOp p o b → HasByte b
+op_some p (op.Simple i) b h = front_some b h.0 h.1 h.2 (code_some (opcode i).0 h.0 h.3)
+op_some p (op.Block t) b h = front_some b h.0 h.1 h.2 (byte_some 0x02 h.0 h.3)
+op_some p (op.Loop t) b h = front_some b h.0 h.1 h.2 (byte_some 0x03 h.0 h.3)
+op_some p (op.If t) b h = front_some b h.0 h.1 h.2 (byte_some 0x04 h.0 h.3)
+op_some p op.Else b h = byte_some 0x05 b h
+op_some p op.End b h = byte_some 0x0B b h
+op_some p (op.BrTable n) b h = front_some b h.0 h.1 h.2 (byte_some 0x0E h.0 h.3)
+op_some p (op.Label l) b h = number_some l b h
+
+module _ (p : Profile) (part : Op → Item) where
+  ops_to : (ops : List Op) (b : List ℕ) (k : Marks) → EachOp p part ops b k → Each (SpellsOp p) ops b × (items_at k ≡ map part ops)
   ops_to [] b k h = (h.0, ap items_at h.1)
   ops_to (o ∷ ops) b k h =
       let v = ops_to ops h.back h.back_marks h.second in
-      let e = parts-some (Some (part o)) h.front (op_some o h.front h.first.0) in
+      let e = parts-some (Some (part o)) h.front (op_some p o h.front h.first.0) in
       ((h.front, h.back, h.bytes, h.first.0, v.0), ap items_at h.marks ∙ (parts-append h.front_marks h.back_marks ∙ cc (ap items_at h.first.1, e, v.1)))
 
-  ops_from : (ops : List Op) (b : List ℕ) → Each SpellsOp ops b → (k : Marks) × EachOp part ops b k × (items_at k ≡ map part ops)
+  ops_from : (ops : List Op) (b : List ℕ) → Each (SpellsOp p) ops b → (k : Marks) × EachOp p part ops b k × (items_at k ≡ map part ops)
   ops_from [] b h = ([], (h, refl), refl)
   ops_from (o ∷ ops) b h =
       let v = ops_from ops h.1 h.4 in
-      let e = parts-some (Some (part o)) h.0 (op_some o h.0 h.3) in (
+      let e = parts-some (Some (part o)) h.0 (op_some p o h.0 h.3) in (
         marks_ending (Some (part o)) h.0 ++ v.0,
         record { front = h.0; back = h.1; front_marks = marks_ending (Some (part o)) h.0; back_marks = v.0; bytes = h.2; marks = refl; first = (h.3, refl); second = v.1 },
         parts-append (marks_ending (Some (part o)) h.0) v.0 ∙ cc (e, v.2),
       )
 
-  reads_ops : (p : Profile) → Reads (Expression p part) (SpellsOps p) (map part)
-  reads_ops p = record {
+  reads_ops : Reads (Expression p part) (SpellsOps p) (map part)
+  reads_ops = record {
     to = λ b k h. let v = ops_to h.0 b k h.3 in (h.0, (h.1, h.2, v.0), v.1);
     from = λ ops b h. let v = ops_from ops b h.2 in (v.0, (ops, h.0, h.1, v.1), v.2);
   }
 
 reads_global : (p : Profile) → Reads (Global p) (SpellsFlatGlobal p) global_items
-reads_global p = reads_as (reads_then (reads_leaf (Those (HasGlobalType p) SpellsGlobalType) global (λ g b h. global_some g b h.1)) (reads_ops const_op p))
+reads_global p = reads_as (reads_then (reads_leaf (Those (HasGlobalType p) SpellsGlobalType) global (λ g b h. global_some g b h.1)) (reads_ops p const_op))
     (λ z b h. (record { ty = z.0; init = z.1 }, h, refl))
     (λ g b h. ((g.ty, g.init), h, refl))
 
@@ -129,13 +136,13 @@ reads_export = reads_as
 
 -- element segments
 reads_element : (p : Profile) → Reads (ElementForm p) (SpellsFlatElement p) element_items
-reads_element p = reads_as (reads_then (reads_index element) (reads_then (reads_ops const_op p) (reads_list element_function (reads_index element_function))))
+reads_element p = reads_as (reads_then (reads_index element) (reads_then (reads_ops p const_op) (reads_list element_function (reads_index element_function))))
     (λ z b h. (record { table = z.0; offset = z.1.0; functions = z.1.1 }, h, refl))
     (λ e b h. ((e.table, (e.offset, e.functions)), h, refl))
 
 -- code: the size, at which the body begins, and then runs and ops in just so many bytes
 pub reads_body : (p : Profile) → Reads {X = List (ℕ × ValType) × List Op} (Then (Vector (Run p)) (Expression p body_op)) (λ z. SpellsList (SpellsRun p) z.0 ▸ SpellsOps p z.1) (λ z. map run_part z.0 ++ map body_op z.1)
-reads_body p = reads_then (reads_list run_part (reads_leaf (SpellsRun p) run_part (λ r b h. let u = h.1 in front_some b u.0 u.1 u.2 (number_some r.0 u.0 u.3)))) (reads_ops body_op p)
+reads_body p = reads_then (reads_list run_part (reads_leaf (SpellsRun p) run_part (λ r b h. let u = h.1 in front_some b u.0 u.1 u.2 (number_some r.0 u.0 u.3)))) (reads_ops p body_op)
 
 reads_code : (p : Profile) → Reads (Code strict p) (SpellsFlatCode p) code_items
 reads_code p = reads_as (reads_sized (reads_entry (reads_body p)) (Some body))
@@ -163,7 +170,7 @@ reads_bytes = reads_as (reads_list data_byte (reads_leaf SpellsByte data_byte (�
     (λ bytes b h. (bytes, (h.0, h.1, h.2, h.3, subst (Each SpellsByte bytes) (sym h.4.0) (bytes_from bytes h.4.1)), refl))
 
 reads_segment : (p : Profile) → Reads (SegmentForm p) (SpellsFlatSegment p) segment_items
-reads_segment p = reads_as (reads_then (reads_index segment) (reads_then (reads_ops const_op p) reads_bytes))
+reads_segment p = reads_as (reads_then (reads_index segment) (reads_then (reads_ops p const_op) reads_bytes))
     (λ z b h. (record { memory = z.0; offset = z.1.0; bytes = z.1.1 }, h, refl))
     (λ s b h. ((s.memory, (s.offset, s.bytes)), h, refl))
 

@@ -195,7 +195,7 @@ module _ (p : Profile) where
       let whole = run_then (Leaf (run_rest p (run_at.Count fresh)) run_part) (Then (Times n (Run p)) (Expression p body_op)) r rest in
       record { bytes = whole.bytes; marks = whole.marks; spelled = (runs_same loose p (suc n)).from whole.bytes whole.marks whole.spelled; count = whole.count; type = whole.type; rest = whole.rest; first = whole.first }
 
-  entry_comes : (left : ℕ) (q : InEntry) → StandsEntry left q → IsBefore q → RunComes (EntryRest loose p q)
+  entry_comes : (left : ℕ) (q : InEntry) → StandsEntry p left q → IsBefore q → RunComes (EntryRest loose p q)
   entry_comes left (entry.RunCount r) h i =
       let n = some_count r h in
       let t = first_run n.0 in
@@ -214,7 +214,7 @@ module _ (p : Profile) where
   entry_comes left (entry.Failed w) h i = absurd i
 
   -- what may come of a machine in an entry before its runs are complete
-  machine_comes : (of : SectionKind) (functions more left rest : ℕ) (q : InEntry) (y : List ℕ) → StandsEntry (suc rest) q → IsBefore q → RunComes (MachineRest loose p (entry_machine of functions more left rest q) y)
+  machine_comes : (of : SectionKind) (functions more left rest : ℕ) (q : InEntry) (y : List ℕ) → StandsEntry p (suc rest) q → IsBefore q → RunComes (MachineRest loose p (entry_machine of functions more left rest q) y)
   machine_comes of functions more left rest q y h i =
       let t = entry_comes (suc rest) q h i in
       let others = some_times left (OneOf loose p of) (some_one p of) in
@@ -254,14 +254,14 @@ module _ (p : Profile) where
     same_marks : i.marks ≡ marks p state_at_start b
     same_marks = one_front p b i.marks (marks p state_at_start b) i.front (is_front p b bytes live)
 
-    not_before : (of : SectionKind) (functions more left rest : ℕ) (q : InEntry) → (state_after p state_at_start b).machine ≡ entry_machine of functions more left rest q → StandsEntry (suc rest) q → IsBefore q → ⊥
+    not_before : (of : SectionKind) (functions more left rest : ℕ) (q : InEntry) → (state_after p state_at_start b).machine ≡ entry_machine of functions more left rest q → StandsEntry p (suc rest) q → IsBefore q → ⊥
     not_before of functions more left rest q e h before =
         let t = machine_comes of functions more left rest q (state_after p state_at_start b).name h before in
         let spelled : MachineRest loose p (state_after p state_at_start b).machine (state_after p state_at_start b).name t.bytes t.marks = subst (λ m. MachineRest loose p m (state_after p state_at_start b).name t.bytes t.marks) (sym e) t.spelled in
         let whole : ModuleForm loose p (b ++ t.bytes) (marks p state_at_start b ++ t.marks) = begin_from loose p (b ++ t.bytes) (marks p state_at_start b ++ t.marks) (run_from loose p state_at_start b t.bytes t.marks bytes begin_fits spelled) in
         i.no_run t.bytes t.marks t.count t.type t.rest (subst (λ k. ModuleForm loose p (b ++ t.bytes) (k ++ t.marks)) (sym same_marks) whole) t.first
 
-    by_place : (of : SectionKind) (functions more left rest : ℕ) (q : InEntry) → (state_after p state_at_start b).machine ≡ entry_machine of functions more left rest q → StandsEntry (suc rest) q → AtOp (state_after p state_at_start b).machine
+    by_place : (of : SectionKind) (functions more left rest : ℕ) (q : InEntry) → (state_after p state_at_start b).machine ≡ entry_machine of functions more left rest q → StandsEntry p (suc rest) q → AtOp (state_after p state_at_start b).machine
     by_place of functions more left rest (entry.Body e) is h = record { of = of; functions = functions; more = more; left = left; rest = rest; place = e; is = is }
     by_place of functions more left rest entry.Over is h = absurd h
     by_place of functions more left rest (entry.Failed w) is h = absurd h
@@ -272,7 +272,7 @@ module _ (p : Profile) where
     at_op = elim (run_enters p b state_at_start 0 (λ l. absurd (omega (arith, l))) (subst (λ k. 0 < entry_after 0 k) same_marks i.at_hand)) [
       | inl r ↦ absurd (live r)
       | inr e ↦
-          let fits : Fits (entry_machine e.of e.functions e.more e.left e.rest e.place) = subst Fits e.is (run_fits p state_at_start b bytes begin_fits) in
+          let fits : Fits p (entry_machine e.of e.functions e.more e.left e.rest e.place) = subst (Fits p) e.is (run_fits p state_at_start b bytes begin_fits) in
           by_place e.of e.functions e.more e.left e.rest e.place e.is fits.2.1.1
     ]
 

@@ -298,12 +298,12 @@ module _ (zone : Zone) (y : List ℕ) (c : ℕ) (x : Item) where
   member_fine p (at.Failed w) i = silent (at.Failed why.SectionEnd)
 
 -- something comes where it stands
-pub comes_at : (p : Profile) (left : ℕ) (m : InMember) (y : List ℕ) → MayGo left m → StandsAt m → Comes (ComponentRest loose p m y)
+pub comes_at : (p : Profile) (left : ℕ) (m : InMember) (y : List ℕ) → MayGo p left m → StandsAt m → Comes (ComponentRest loose p m y)
 comes_at p left at.Over y g s = some_empty
 comes_at p left (at.Failed w) y g s = absurd s
 comes_at p left m y g s = some_component p left m y g
 
-comes_in_entry : (p : Profile) (left : ℕ) (q : InEntry) → MayEnter left q → StandsEntry q → Comes (EntryRest loose p q)
+comes_in_entry : (p : Profile) (left : ℕ) (q : InEntry) → MayEnter p left q → StandsEntry q → Comes (EntryRest loose p q)
 comes_in_entry p left entry.Over g s = some_empty
 comes_in_entry p left (entry.Failed w) g s = absurd s
 comes_in_entry p left q g s = some_of_entry p left q g.1
@@ -317,17 +317,17 @@ entry_item zone y c m q (event.EndsName k) o = absurd o
 entry_item zone y c m q (event.EmptyName k) o = absurd o
 
 module _ (p : Profile) (c : ℕ) (byte : c < 2 ^ 8) (x : Item) where
-  outside_ends : (left : ℕ) (q : InMember) (y : List ℕ) → IsOutside q → CanGo (suc left) q → (byte_read at.Failed (zone_in q) y c (member_step p q c)).mark.item ≡ Some x → Ends (ComponentRest loose p q y) c x
+  outside_ends : (left : ℕ) (q : InMember) (y : List ℕ) → IsOutside q → CanGo p (suc left) q → (byte_read at.Failed (zone_in q) y c (member_step p q c)).mark.item ≡ Some x → Ends (ComponentRest loose p q y) c x
   outside_ends left q y o go i =
       let h = byte_read at.Failed (zone_in q) y c (member_step p q c) in
-      let next : MayGo left h.at = heard_so at.Failed StandsAt (zone_in q) y c x (MayGo left) (member_step p q c).0 (member_step p q c).1 (can_go_on p left q c byte go) (λ w. tt) in
+      let next : MayGo p left h.at = heard_so at.Failed StandsAt (zone_in q) y c x (MayGo p left) (member_step p q c).0 (member_step p q c).1 (can_go_on p left q c byte go) (λ w. tt) in
       ends_next c x (ComponentRest loose p q y) (ComponentRest loose p h.at h.name) h.mark i (component_follows loose p left q y c go byte) (comes_at p left h.at h.name next (member_fine (zone_in q) y c x p q o i))
 
-  entry_ends : (more : ℕ) (q : InEntry) → CanEnter (suc more) q → (byte_read entry.Failed outside [] c (entry_step p q c)).mark.item ≡ Some x → Ends (EntryRest loose p q) c x
+  entry_ends : (more : ℕ) (q : InEntry) → CanEnter p (suc more) q → (byte_read entry.Failed outside [] c (entry_step p q c)).mark.item ≡ Some x → Ends (EntryRest loose p q) c x
   entry_ends more q go i =
       let h = byte_read entry.Failed outside [] c (entry_step p q c) in
       let few : more < 2 ^ 32 = (let l = go.0 in omega (arith, l)) in
-      let next : MayEnter more h.at = heard_so entry.Failed StandsEntry outside [] c x (MayEnter more) (entry_step p q c).0 (entry_step p q c).1 (entry_may more few p q c byte go.1) (λ w. tt) in
+      let next : MayEnter p more h.at = heard_so entry.Failed StandsEntry outside [] c x (MayEnter p more) (entry_step p q c).0 (entry_step p q c).1 (entry_may p more few q c byte go.1) (λ w. tt) in
       ends_next c x (EntryRest loose p q) (EntryRest loose p h.at) h.mark i (entry_follows loose p q c (can_open loose p more q go.1) byte) (comes_in_entry p more h.at next (entry_fine outside [] c x p q i))
 
   size_ends : (r : Partial) (y : List ℕ) (q : Step ℕ × Partial) → CountedNext loose (λ n. Some body) (InSize loose p) r c q
@@ -336,7 +336,7 @@ module _ (p : Profile) (c : ℕ) (byte : c < 2 ^ 8) (x : Item) where
   size_ends r y (step.Done v, s) n i = ends_next c x (Counted (Left r) (λ n. Some body) (InSize loose p)) (InSize loose p v) (outside_mark (Some body)) i n (some_size p v)
   size_ends r y (step.Bad, s) n i = absurd (no_item x i)
 
-  member_ends : (left : ℕ) (q : InMember) (y : List ℕ) → CanGo (suc left) q → (byte_read at.Failed (zone_in q) y c (member_step p q c)).mark.item ≡ Some x → Ends (ComponentRest loose p q y) c x
+  member_ends : (left : ℕ) (q : InMember) (y : List ℕ) → CanGo p (suc left) q → (byte_read at.Failed (zone_in q) y c (member_step p q c)).mark.item ≡ Some x → Ends (ComponentRest loose p q y) c x
   member_ends left (at.EntrySize r) y go i = size_ends r y (unsigned_push 32 r c) (counted_next loose (λ n. Some body) (InSize loose p) r c byte) i
   member_ends left (at.Entry more q) y go i =
       let z = entry_step p q c in
@@ -424,7 +424,7 @@ module _ (p : Profile) (c : ℕ) (byte : c < 2 ^ 8) (x : Item) where
   mute : (m : Machine) (y : List ℕ) → IsSilent (step_of p m c).1 → EndsIn m y
   mute m y s i = absurd (silent_none (zone_of m) y c (step_of p m c).0 (step_of p m c).1 x s i)
 
-  machine_ends : (m : Machine) (y : List ℕ) → Fits m → EndsIn m y
+  machine_ends : (m : Machine) (y : List ℕ) → Fits p m → EndsIn m y
   machine_ends (machine.Header n) y f = mute (machine.Header n) y (header_silent n c)
   machine_ends (machine.Between last functions) y f = mute (machine.Between last functions) y (start_silent last functions c)
   machine_ends (machine.CustomSize last functions r) y f =

@@ -1,6 +1,6 @@
 -- Bytes spell something under a profile if and only if they spell it under one with more features and the profile has
 -- each item.
-use Rattle.std.proofs.Common.{◌≡◌, ℕ, None, Some, List, [], ◌∷◌, ◌++◌, ◌↔◌, map, flat_map, inl, inr}
+use Rattle.std.proofs.Common.{◌≡◌, ℕ, None, Some, List, [], ◌∷◌, ◌++◌, map, flat_map, inl, inr, ◌∙◌}
 use Rattle.std.specs.List.{AllByRecursion}
 use Rattle.wm_syntax.specs.declared.types.ValType.{ValType}
 use Rattle.wm_syntax.specs.declared.instructions.Op.{Op}
@@ -12,10 +12,14 @@ use Rattle.wm_syntax.specs.Spelling.{Form, Each, ◌▸◌}
 use Rattle.wm_syntax.specs.Types.{Signature, SpellsLimits, SpellsSignature, SpellsTableType, SpellsU32}
 use Rattle.wm_syntax.specs.Modules.{Import}
 use Rattle.wm_syntax.proofs.ProfileLaws.{all_append, all_back, all_each, all_front, op_of_more, type_more}
-use Rattle.wm_machine.specs.BetweenProfiles.{HasItem}
+use Rattle.wm_machine.specs.BetweenProfiles.{EncodeAlike, HasItem}
 use Rattle.wm_machine.specs.Items.{Item, param, one_result, const_op, body_op, locals, element_function, data_byte, function, table, memory}
 use Rattle.wm_machine.specs.Sections.{Customs, ListSection, SpellsExport, SpellsImport, SpellsRun, StartSection, Those}
 use Rattle.wm_machine.specs.Flat.{FlatCode, FlatElement, FlatGlobal, FlatModule, FlatSegment, HasImport, SpellsFlat, SpellsFlatCode, SpellsFlatElement, SpellsFlatGlobal, SpellsFlatSegment, SpellsOps, code_items, element_items, export_items, flat_items, global_items, import_items, segment_items, start_items, type_items}
+use Rattle.wm_syntax.specs.Encodings.{SpellsOp}
+use Rattle.wm_syntax.specs.declared.profile.Feature.TheVariants.{LongIndex}
+use Rattle.wm_syntax.proofs.SpelledMore.{op_spelled_more}
+use Rattle.wm_machine.proofs.Nesting.{each_more}
 
 -- V is W with G beside it
 module _ {X : Type 0} (G : X → Type 0) (V W : X → Form ℕ) where
@@ -109,10 +113,7 @@ module _ {X : Type 0} (H K : X → Type 0) (V : X → Form ℕ) (more : (x : X) 
 
 module _ (p q : Profile) (more : Extends q p) where
   ops_part : (ops : List Op) (b : List ℕ) → SpellsOps p ops b → SpellsOps q ops b × OwnOps p ops
-  ops_part ops b h = ((h.0, all_each (IsOpOf p) (IsOpOf q) (op_of_more p q more) ops h.1, h.2), h.1)
-
-  ops_join : (ops : List Op) (b : List ℕ) → SpellsOps q ops b → OwnOps p ops → SpellsOps p ops b
-  ops_join ops b h g = (h.0, g, h.2)
+  ops_part ops b h = ((h.0, all_each (IsOpOf p) (IsOpOf q) (op_of_more p q more) ops h.1, each_more (SpellsOp p) (SpellsOp q) (op_spelled_more p q (more LongIndex)) ops b h.2), h.1)
 
   signature_more : (f : Signature) → HasSignature p f → HasSignature q f
   signature_more f h =
@@ -127,17 +128,11 @@ module _ (p q : Profile) (more : Extends q p) where
       let o = ops_part g.init h.1 h.4 in
       ((h.0, h.1, h.2, (type_more p q more g.ty.ty h.3.0, h.3.1), o.0), (h.3.0, o.1))
 
-  global_join : Joins (OwnGlobal p) (SpellsFlatGlobal p) (SpellsFlatGlobal q)
-  global_join g b h a = (h.0, h.1, h.2, (a.0, h.3.1), ops_join g.init h.1 h.4 a.1)
-
   element_part : Parts (OwnElement p) (SpellsFlatElement p) (SpellsFlatElement q)
   element_part e b h =
       let i = h.4 in
       let o = ops_part e.offset i.0 i.3 in
       ((h.0, h.1, h.2, h.3, (i.0, i.1, i.2, o.0, i.4)), o.1)
-
-  element_join : Joins (OwnElement p) (SpellsFlatElement p) (SpellsFlatElement q)
-  element_join e b h a = let i = h.4 in (h.0, h.1, h.2, h.3, (i.0, i.1, i.2, ops_join e.offset i.0 i.3 a, i.4))
 
   segment_part : Parts (OwnSegment p) (SpellsFlatSegment p) (SpellsFlatSegment q)
   segment_part s b h =
@@ -145,14 +140,8 @@ module _ (p q : Profile) (more : Extends q p) where
       let o = ops_part s.offset i.0 i.3 in
       ((h.0, h.1, h.2, h.3, (i.0, i.1, i.2, o.0, i.4)), o.1)
 
-  segment_join : Joins (OwnSegment p) (SpellsFlatSegment p) (SpellsFlatSegment q)
-  segment_join s b h a = let i = h.4 in (h.0, h.1, h.2, h.3, (i.0, i.1, i.2, ops_join s.offset i.0 i.3 a, i.4))
-
   run_part : Parts (λ r. HasType p r.1) (SpellsRun p) (SpellsRun q)
   run_part r b h = ((type_more p q more r.1 h.0, h.1), h.0)
-
-  run_join : Joins (λ r. HasType p r.1) (SpellsRun p) (SpellsRun q)
-  run_join r b h a = (a, h.1)
 
   code_part : Parts (OwnCode p) (SpellsFlatCode p) (SpellsFlatCode q)
   code_part c b h =
@@ -161,12 +150,6 @@ module _ (p q : Profile) (more : Extends q p) where
       let r = each_parts (λ r. HasType p r.1) (SpellsRun p) (SpellsRun q) run_part c.runs l.1 l.4 in
       let o = ops_part c.ops i.1 i.4 in
       ((h.0, h.1, h.2, h.3, (i.0, i.1, i.2, (l.0, l.1, l.2, l.3, r.0), o.0)), (r.1, o.1))
-
-  code_join : Joins (OwnCode p) (SpellsFlatCode p) (SpellsFlatCode q)
-  code_join c b h a =
-      let i = h.4 in
-      let l = i.3 in
-      (h.0, h.1, h.2, h.3, (i.0, i.1, i.2, (l.0, l.1, l.2, l.3, each_joins (λ r. HasType p r.1) (SpellsRun p) (SpellsRun q) run_join c.runs l.1 l.4 a.0), ops_join c.ops i.1 i.4 a.1))
 
   import_more : (i : Import) → HasImport p i → HasImport q i
   import_more i h = desc_more i.desc h
@@ -194,8 +177,31 @@ module _ (p q : Profile) (more : Extends q p) where
         let g9 = g6.1.1.1 in
         ((h.0, (i.0, i.1, i.2, i.3, u.0)), record { types = u.1.0; imports = u.1.1.0; globals = g6.0; elements = g9.0; codes = g9.1.0; segments = g9.1.1.0 })
 
-    module_joins : (b : List ℕ) → SpellsFlat q v b → Owns p v → SpellsFlat p v b
-    module_joins b h g =
+  -- the same way back, if a table index has the same bytes under both
+  module _ (alike : EncodeAlike p q) where
+    ops_join : (ops : List Op) (b : List ℕ) → SpellsOps q ops b → OwnOps p ops → SpellsOps p ops b
+    ops_join ops b h g = (h.0, g, each_more (SpellsOp q) (SpellsOp p) (op_spelled_more q p (λ y. alike ∙ y)) ops b h.2)
+
+    global_join : Joins (OwnGlobal p) (SpellsFlatGlobal p) (SpellsFlatGlobal q)
+    global_join g b h a = (h.0, h.1, h.2, (a.0, h.3.1), ops_join g.init h.1 h.4 a.1)
+
+    element_join : Joins (OwnElement p) (SpellsFlatElement p) (SpellsFlatElement q)
+    element_join e b h a = let i = h.4 in (h.0, h.1, h.2, h.3, (i.0, i.1, i.2, ops_join e.offset i.0 i.3 a, i.4))
+
+    segment_join : Joins (OwnSegment p) (SpellsFlatSegment p) (SpellsFlatSegment q)
+    segment_join s b h a = let i = h.4 in (h.0, h.1, h.2, h.3, (i.0, i.1, i.2, ops_join s.offset i.0 i.3 a, i.4))
+
+    run_join : Joins (λ r. HasType p r.1) (SpellsRun p) (SpellsRun q)
+    run_join r b h a = (a, h.1)
+
+    code_join : Joins (OwnCode p) (SpellsFlatCode p) (SpellsFlatCode q)
+    code_join c b h a =
+        let i = h.4 in
+        let l = i.3 in
+        (h.0, h.1, h.2, h.3, (i.0, i.1, i.2, (l.0, l.1, l.2, l.3, each_joins (λ r. HasType p r.1) (SpellsRun p) (SpellsRun q) run_join c.runs l.1 l.4 a.0), ops_join c.ops i.1 i.4 a.1))
+
+    module_joins : (v : FlatModule) (b : List ℕ) → SpellsFlat q v b → Owns p v → SpellsFlat p v b
+    module_joins v b h g =
         let chain =
         next (with_none _ _ (λ d s. list_joins _ _ _ (those_join (HasSignature p) (HasSignature q) SpellsSignature signature_more) 1 v.types d s g.types))
         (next (with_none _ _ (λ d s. list_joins _ _ _ (those_join (HasImport p) (HasImport q) SpellsImport import_more) 2 v.imports d s g.imports))
@@ -343,8 +349,8 @@ module _ (p : Profile) where
           segments = many_owned segment_items (OwnSegment p) (λ s k. const_owned s.offset (map data_byte s.bytes) k.1) v.segments (all_back (HasItem p) (flat_map code_items v.codes) (flat_map segment_items v.segments) h10);
         }
 
-pub spelled_with_items : (p q : Profile) (v : FlatModule) (b : List ℕ) → Extends q p → SpellsFlat p v b ↔ SpellsFlat q v b × AllByRecursion (HasItem p) (flat_items v)
-spelled_with_items p q v b more = (
-  λ h. let u = module_parts p q more v b h in (u.0, items_own p v u.1),
-  λ h. module_joins p q more v b h.0 (items_owned p v h.1),
-)
+pub spelled_of_items : (p q : Profile) (v : FlatModule) (b : List ℕ) → Extends q p → SpellsFlat p v b → SpellsFlat q v b × AllByRecursion (HasItem p) (flat_items v)
+spelled_of_items p q v b more h = let u = module_parts p q more v b h in (u.0, items_own p v u.1)
+
+pub spelled_by_items : (p q : Profile) (v : FlatModule) (b : List ℕ) → Extends q p → EncodeAlike p q → SpellsFlat q v b → AllByRecursion (HasItem p) (flat_items v) → SpellsFlat p v b
+spelled_by_items p q v b more alike h own = module_joins p q more alike v b h (items_owned p v own)

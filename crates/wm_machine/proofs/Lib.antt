@@ -8,6 +8,7 @@ pub mod ValuesThatAsk
 pub mod ValueBytes
 pub mod FloatBytes
 pub mod OpBytes
+pub mod TableIndex
 pub mod OpRest
 pub mod OpSound
 pub mod Endings
@@ -51,6 +52,7 @@ pub mod ByteRuns
 pub mod FramedBytes
 pub mod ItemFronts
 pub mod MustStand
+pub mod CodesAtHand
 pub mod WrongBytes
 pub mod WrongMembers
 pub mod BadNames

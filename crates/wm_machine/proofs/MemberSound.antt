@@ -161,44 +161,44 @@ value_fine p (value.Memory l) c byte h = within_fine SoundLimits SoundValue valu
 value_fine p (value.Export t) c byte h = within_fine SoundTarget SoundValue value.Export _ (target_push t c) (target_fine t c byte h) (λ r g. g)
 
 -- places in a code entry with so many bytes left, the next one included
-abbrev pub StandsEntry : ℕ → InEntry → Type 0
-StandsEntry left (entry.RunCount r) = HasRoom 32 r
-StandsEntry left (entry.Run more r) = SoundRun r
-StandsEntry left (entry.Body e) = IsInside e × SoundExpression left e
-StandsEntry left entry.Over = ⊥
-StandsEntry left (entry.Failed w) = ⊥
+abbrev pub StandsEntry : Profile → ℕ → InEntry → Type 0
+StandsEntry p left (entry.RunCount r) = HasRoom 32 r
+StandsEntry p left (entry.Run more r) = SoundRun r
+StandsEntry p left (entry.Body e) = IsInside e × SoundExpression p left e
+StandsEntry p left entry.Over = ⊥
+StandsEntry p left (entry.Failed w) = ⊥
 
-abbrev pub CanEnter : ℕ → InEntry → Type 0
-CanEnter left q = (left < 2 ^ 32) × StandsEntry left q
+abbrev pub CanEnter : Profile → ℕ → InEntry → Type 0
+CanEnter p left q = (left < 2 ^ 32) × StandsEntry p left q
 
 -- what a byte leaves of one, which may be over or have failed
-abbrev pub MayEnter : ℕ → InEntry → Type 0
-MayEnter left entry.Over = Unit {0}
-MayEnter left (entry.Failed w) = Unit {0}
-MayEnter left q = CanEnter left q
+abbrev pub MayEnter : Profile → ℕ → InEntry → Type 0
+MayEnter p left entry.Over = Unit {0}
+MayEnter p left (entry.Failed w) = Unit {0}
+MayEnter p left q = CanEnter p left q
 
 -- places in a member with so many bytes of the section left, the next one included
-abbrev pub Stands : ℕ → InMember → Type 0
-Stands left (at.ParamCount r) = HasRoom 32 r
-Stands left (at.ResultCount r) = HasRoom 32 r
-Stands left (at.NameLength of r) = HasRoom 32 r
-Stands left (at.Value v) = SoundValue v
-Stands left (at.Index of r) = HasRoom 32 r
-Stands left (at.Constant of e) = IsInside e × SoundExpression left e
-Stands left (at.Length of r) = HasRoom 32 r
-Stands left (at.EntrySize r) = HasRoom 32 r
-Stands left (at.Entry more q) = CanEnter (suc more) q
-Stands left at.Over = ⊥
-Stands left (at.Failed w) = ⊥
-Stands left q = Unit {0}
+abbrev pub Stands : Profile → ℕ → InMember → Type 0
+Stands p left (at.ParamCount r) = HasRoom 32 r
+Stands p left (at.ResultCount r) = HasRoom 32 r
+Stands p left (at.NameLength of r) = HasRoom 32 r
+Stands p left (at.Value v) = SoundValue v
+Stands p left (at.Index of r) = HasRoom 32 r
+Stands p left (at.Constant of e) = IsInside e × SoundExpression p left e
+Stands p left (at.Length of r) = HasRoom 32 r
+Stands p left (at.EntrySize r) = HasRoom 32 r
+Stands p left (at.Entry more q) = CanEnter p (suc more) q
+Stands p left at.Over = ⊥
+Stands p left (at.Failed w) = ⊥
+Stands p left q = Unit {0}
 
-abbrev pub CanGo : ℕ → InMember → Type 0
-CanGo left q = (left < 2 ^ 32) × Stands left q
+abbrev pub CanGo : Profile → ℕ → InMember → Type 0
+CanGo p left q = (left < 2 ^ 32) × Stands p left q
 
-abbrev pub MayGo : ℕ → InMember → Type 0
-MayGo left at.Over = Unit {0}
-MayGo left (at.Failed w) = Unit {0}
-MayGo left q = CanGo left q
+abbrev pub MayGo : Profile → ℕ → InMember → Type 0
+MayGo p left at.Over = Unit {0}
+MayGo p left (at.Failed w) = Unit {0}
+MayGo p left q = CanGo p left q
 
 -- an answer of a number's reader, of a value's and of a value type
 number_may : {M : Type 0} (P : M → Type 0) (r : Partial) (c : ℕ) (more : Partial → M) (done : ℕ → M × Event) (bad : Why → M) → HasRoom 32 r → c < 2 ^ 8 → ((s : Partial) → HasRoom 32 s → P (more s)) → ((n : ℕ) → n < 2 ^ 32 → P (done n).0) → P (bad why.BadNumber) → P (on_number (unsigned_push 32 r c) more done bad).0
@@ -218,28 +218,28 @@ type_may : {M : Type 0} (P : M → Type 0) (q : Result ValType Why) (done : ValT
 type_may P (Ok t) done bad a b = a t
 type_may P (Err w) done bad a b = b w
 
-module _ (left : ℕ) (few : left < 2 ^ 32) where
+module _ (p : Profile) (left : ℕ) (few : left < 2 ^ 32) where
   -- code entries
-  runs_may : (n : ℕ) → MayEnter left (runs_or_body n)
-  runs_may zero = (few, (tt, start_sound left few))
+  runs_may : (n : ℕ) → MayEnter p left (runs_or_body n)
+  runs_may zero = (few, (tt, start_sound p left few))
   runs_may (suc n) = (few, fresh_32)
 
-  op_may : (e : InExpression) → FineExpression left e → MayEnter left (entry_after_op e)
+  op_may : (e : InExpression) → FineExpression p left e → MayEnter p left (entry_after_op e)
   op_may expression.Over h = tt
   op_may (expression.Failed w) h = tt
   op_may (expression.Op depth q) h = (few, (tt, h))
   op_may (expression.Label depth n r) h = (few, (tt, h))
 
-  pub entry_may : (p : Profile) (q : InEntry) (c : ℕ) → c < 2 ^ 8 → StandsEntry (suc left) q → MayEnter left (entry_step p q c).0
-  entry_may p (entry.RunCount r) c byte h = number_may (MayEnter left) r c entry.RunCount (λ n. (runs_or_body n, event.Nothing)) entry.Failed h byte (λ s g. (few, g)) (λ n l. runs_may n) tt
-  entry_may p (entry.Run more r) c byte h = value_may (MayEnter left) SoundRun (run_push p r c) (λ s. entry.Run more s) _ entry.Failed (run_fine p r c byte h) (λ s g. (few, g)) (λ x. runs_may more) (λ w. tt)
-  entry_may p (entry.Body e) c byte h = op_may (expression_step p e c).0 (expression_sound p left e c byte h.1)
-  entry_may p entry.Over c byte h = absurd h
-  entry_may p (entry.Failed w) c byte h = absurd h
+  pub entry_may : (q : InEntry) (c : ℕ) → c < 2 ^ 8 → StandsEntry p (suc left) q → MayEnter p left (entry_step p q c).0
+  entry_may (entry.RunCount r) c byte h = number_may (MayEnter p left) r c entry.RunCount (λ n. (runs_or_body n, event.Nothing)) entry.Failed h byte (λ s g. (few, g)) (λ n l. runs_may n) tt
+  entry_may (entry.Run more r) c byte h = value_may (MayEnter p left) SoundRun (run_push p r c) (λ s. entry.Run more s) _ entry.Failed (run_fine p r c byte h) (λ s g. (few, g)) (λ x. runs_may more) (λ w. tt)
+  entry_may (entry.Body e) c byte h = op_may (expression_step p e c).0 (expression_sound p left e c byte h.1)
+  entry_may entry.Over c byte h = absurd h
+  entry_may (entry.Failed w) c byte h = absurd h
 
-module _ (left : ℕ) (few : left < 2 ^ 32) where
+module _ (p : Profile) (left : ℕ) (few : left < 2 ^ 32) where
   -- what each place becomes
-  begin_may : (of : SectionKind) → CanGo left (member_at_start of)
+  begin_may : (of : SectionKind) → CanGo p left (member_at_start of)
   begin_may section_kind.Type = (few, tt)
   begin_may section_kind.Import = (few, fresh_32)
   begin_may section_kind.Function = (few, fresh_32)
@@ -252,59 +252,59 @@ module _ (left : ℕ) (few : left < 2 ^ 32) where
   begin_may section_kind.Code = (few, fresh_32)
   begin_may section_kind.Segment = (few, fresh_32)
 
-  param_may : (n : ℕ) → MayGo left (after_param n)
+  param_may : (n : ℕ) → MayGo p left (after_param n)
   param_may zero = (few, fresh_32)
   param_may (suc n) = (few, tt)
 
-  result_may : (n : ℕ) → MayGo left (after_result n)
+  result_may : (n : ℕ) → MayGo p left (after_result n)
   result_may zero = tt
   result_may (suc n) = (few, tt)
 
-  name_may : (of : NameKind) → MayGo left (after_name of)
+  name_may : (of : NameKind) → MayGo p left (after_name of)
   name_may name.ImportModule = (few, fresh_32)
   name_may name.ImportName = (few, tt)
   name_may name.Export = (few, tt)
   name_may name.Custom = tt
 
-  length_may : (of : NameKind) (n : ℕ) → MayGo left (after_length of n).0
+  length_may : (of : NameKind) (n : ℕ) → MayGo p left (after_length of n).0
   length_may of zero = name_may of
   length_may of (suc n) = (few, tt)
 
-  name_step_may : (of : NameKind) (n : ℕ) → MayGo left (name_step of n).0
+  name_step_may : (of : NameKind) (n : ℕ) → MayGo p left (name_step of n).0
   name_step_may of zero = name_may of
   name_step_may of (suc n) = (few, tt)
 
-  functions_may : (n : ℕ) → MayGo left (functions_or_over n)
+  functions_may : (n : ℕ) → MayGo p left (functions_or_over n)
   functions_may zero = tt
   functions_may (suc n) = (few, fresh_32)
 
-  data_may : (n : ℕ) → MayGo left (data_or_over n)
+  data_may : (n : ℕ) → MayGo p left (data_or_over n)
   data_may zero = tt
   data_may (suc n) = (few, tt)
 
-  list_may : (of : LengthOf) (n : ℕ) → MayGo left (list_or_over of n)
+  list_may : (of : LengthOf) (n : ℕ) → MayGo p left (list_or_over of n)
   list_may length_of.Functions n = functions_may n
   list_may length_of.Bytes n = data_may n
 
-  index_may : (of : IndexOf) → MayGo left (after_index of)
+  index_may : (of : IndexOf) → MayGo p left (after_index of)
   index_may index.Function = tt
   index_may index.Start = tt
-  index_may index.Element = (few, (tt, start_sound left few))
+  index_may index.Element = (few, (tt, start_sound p left few))
   index_may (index.ElementFunction more) = functions_may more
-  index_may index.Segment = (few, (tt, start_sound left few))
+  index_may index.Segment = (few, (tt, start_sound p left few))
 
-  over_may : (of : ConstantOf) → MayGo left (constant_over of)
+  over_may : (of : ConstantOf) → MayGo p left (constant_over of)
   over_may constant.Global = tt
   over_may constant.Element = (few, fresh_32)
   over_may constant.Segment = (few, fresh_32)
 
-  constant_may : (of : ConstantOf) (e : InExpression) → FineExpression left e → MayGo left (after_constant of e)
+  constant_may : (of : ConstantOf) (e : InExpression) → FineExpression p left e → MayGo p left (after_constant of e)
   constant_may of expression.Over h = over_may of
   constant_may of (expression.Failed w) h = tt
   constant_may of (expression.Op depth q) h = (few, (tt, h))
   constant_may of (expression.Label depth n r) h = (few, (tt, h))
 
-  framed_may : (n : ℕ) (q : InEntry) → MayEnter n q → MayGo left (member_in_entry n q)
+  framed_may : (n : ℕ) (q : InEntry) → MayEnter p n q → MayGo p left (member_in_entry n q)
   framed_may n (entry.Failed w) h = tt
   framed_may zero entry.Over h = tt
   framed_may (suc n) entry.Over h = tt
@@ -315,27 +315,27 @@ module _ (left : ℕ) (few : left < 2 ^ 32) where
   framed_may (suc n) (entry.Run more r) h = (few, h)
   framed_may (suc n) (entry.Body e) h = (few, h)
 
-  step_may : (p : Profile) (q : InMember) (c : ℕ) → c < 2 ^ 8 → Stands (suc left) q → MayGo left (member_step p q c).0
-  step_may p at.TypeForm c byte h = cond_both (nat_eq c 0x60) _ _ (λ (x : InMember × Event). MayGo left x.0) (λ _. (few, fresh_32)) (λ _. tt)
-  step_may p (at.ParamCount r) c byte h = number_may (MayGo left) r c at.ParamCount (λ n. (after_param n, event.Nothing)) at.Failed h byte (λ s g. (few, g)) (λ n l. param_may n) tt
-  step_may p (at.Param more) c byte h = type_may (MayGo left) (value_type_of p c) (λ t. with_item_given (after_param more) (plain.Param t)) at.Failed (λ t. param_may more) (λ w. tt)
-  step_may p (at.ResultCount r) c byte h = number_may (MayGo left) r c at.ResultCount (λ n. with_item_given (after_result n) (plain.ResultCount n)) at.Failed h byte (λ s g. (few, g)) (λ n l. result_may n) tt
-  step_may p (at.ResultType more) c byte h = type_may (MayGo left) (value_type_of p c) (λ t. with_item_given (after_result more) (plain.OneResult t)) at.Failed (λ t. result_may more) (λ w. tt)
-  step_may p (at.NameLength of r) c byte h = number_may (MayGo left) r c (λ s. at.NameLength of s) (after_length of) at.Failed h byte (λ s g. (few, g)) (λ n l. length_may of n) tt
-  step_may p (at.Name of more) c byte h = name_step_may of more
-  step_may p (at.Value v) c byte h = value_may (MayGo left) SoundValue (value_push p v c) at.Value (λ q. with_item_given at.Over q) at.Failed (value_fine p v c byte h) (λ s g. (few, g)) (λ x. tt) (λ w. tt)
-  step_may p (at.Index of r) c byte h = number_may (MayGo left) r c (λ s. at.Index of s) (λ n. with_item_given (after_index of) (index_item of n)) at.Failed h byte (λ s g. (few, g)) (λ n l. index_may of) tt
-  step_may p (at.GlobalType g) c byte h = value_may (MayGo left) AnyGlobal (global_type_push p g c) at.GlobalType (λ t. with_item_given (at.Constant constant.Global start) (plain.Global t)) at.Failed (any_fine (global_type_push p g c)) (λ s i. (few, tt)) (λ x. (few, (tt, start_sound left few))) (λ w. tt)
-  step_may p (at.Constant of e) c byte h = constant_may of (expression_step p e c).0 (expression_sound p left e c byte h.1)
-  step_may p (at.Length of r) c byte h = number_may (MayGo left) r c (λ s. at.Length of s) (λ n. (list_or_over of n, event.Nothing)) at.Failed h byte (λ s g. (few, g)) (λ n l. list_may of n) tt
-  step_may p (at.Data more) c byte h = data_may more
-  step_may p (at.EntrySize r) c byte h = number_may (MayGo left) r c at.EntrySize (λ n. with_item_given (member_in_entry n (entry.RunCount fresh)) plain.Body) at.Failed h byte (λ s g. (few, g)) (λ n l. framed_may n (entry.RunCount fresh) (l, fresh_32)) tt
-  step_may p (at.Entry more q) c byte h = let m : more < 2 ^ 32 = omega (arith, h.0) in framed_may more (entry_step p q c).0 (entry_may more m p q c byte h.1)
-  step_may p at.Over c byte h = absurd h
-  step_may p (at.Failed w) c byte h = absurd h
+  step_may : (q : InMember) (c : ℕ) → c < 2 ^ 8 → Stands p (suc left) q → MayGo p left (member_step p q c).0
+  step_may at.TypeForm c byte h = cond_both (nat_eq c 0x60) _ _ (λ (x : InMember × Event). MayGo p left x.0) (λ _. (few, fresh_32)) (λ _. tt)
+  step_may (at.ParamCount r) c byte h = number_may (MayGo p left) r c at.ParamCount (λ n. (after_param n, event.Nothing)) at.Failed h byte (λ s g. (few, g)) (λ n l. param_may n) tt
+  step_may (at.Param more) c byte h = type_may (MayGo p left) (value_type_of p c) (λ t. with_item_given (after_param more) (plain.Param t)) at.Failed (λ t. param_may more) (λ w. tt)
+  step_may (at.ResultCount r) c byte h = number_may (MayGo p left) r c at.ResultCount (λ n. with_item_given (after_result n) (plain.ResultCount n)) at.Failed h byte (λ s g. (few, g)) (λ n l. result_may n) tt
+  step_may (at.ResultType more) c byte h = type_may (MayGo p left) (value_type_of p c) (λ t. with_item_given (after_result more) (plain.OneResult t)) at.Failed (λ t. result_may more) (λ w. tt)
+  step_may (at.NameLength of r) c byte h = number_may (MayGo p left) r c (λ s. at.NameLength of s) (after_length of) at.Failed h byte (λ s g. (few, g)) (λ n l. length_may of n) tt
+  step_may (at.Name of more) c byte h = name_step_may of more
+  step_may (at.Value v) c byte h = value_may (MayGo p left) SoundValue (value_push p v c) at.Value (λ q. with_item_given at.Over q) at.Failed (value_fine p v c byte h) (λ s g. (few, g)) (λ x. tt) (λ w. tt)
+  step_may (at.Index of r) c byte h = number_may (MayGo p left) r c (λ s. at.Index of s) (λ n. with_item_given (after_index of) (index_item of n)) at.Failed h byte (λ s g. (few, g)) (λ n l. index_may of) tt
+  step_may (at.GlobalType g) c byte h = value_may (MayGo p left) AnyGlobal (global_type_push p g c) at.GlobalType (λ t. with_item_given (at.Constant constant.Global start) (plain.Global t)) at.Failed (any_fine (global_type_push p g c)) (λ s i. (few, tt)) (λ x. (few, (tt, start_sound p left few))) (λ w. tt)
+  step_may (at.Constant of e) c byte h = constant_may of (expression_step p e c).0 (expression_sound p left e c byte h.1)
+  step_may (at.Length of r) c byte h = number_may (MayGo p left) r c (λ s. at.Length of s) (λ n. (list_or_over of n, event.Nothing)) at.Failed h byte (λ s g. (few, g)) (λ n l. list_may of n) tt
+  step_may (at.Data more) c byte h = data_may more
+  step_may (at.EntrySize r) c byte h = number_may (MayGo p left) r c at.EntrySize (λ n. with_item_given (member_in_entry n (entry.RunCount fresh)) plain.Body) at.Failed h byte (λ s g. (few, g)) (λ n l. framed_may n (entry.RunCount fresh) (l, fresh_32)) tt
+  step_may (at.Entry more q) c byte h = let m : more < 2 ^ 32 = omega (arith, h.0) in framed_may more (entry_step p q c).0 (entry_may p more m q c byte h.1)
+  step_may at.Over c byte h = absurd h
+  step_may (at.Failed w) c byte h = absurd h
 
-pub can_begin : (left : ℕ) → left < 2 ^ 32 → (of : SectionKind) → CanGo left (member_at_start of)
-can_begin left few of = begin_may left few of
+pub can_begin : (p : Profile) (left : ℕ) → left < 2 ^ 32 → (of : SectionKind) → CanGo p left (member_at_start of)
+can_begin p left few of = begin_may p left few of
 
-pub can_go_on : (p : Profile) (left : ℕ) (q : InMember) (c : ℕ) → c < 2 ^ 8 → CanGo (suc left) q → MayGo left (member_step p q c).0
-can_go_on p left q c byte h = let few : left < 2 ^ 32 = omega (arith, h.0) in step_may left few p q c byte h.1
+pub can_go_on : (p : Profile) (left : ℕ) (q : InMember) (c : ℕ) → c < 2 ^ 8 → CanGo p (suc left) q → MayGo p left (member_step p q c).0
+can_go_on p left q c byte h = let few : left < 2 ^ 32 = omega (arith, h.0) in step_may p left few q c byte h.1

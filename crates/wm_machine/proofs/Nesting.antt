@@ -9,8 +9,9 @@ use Rattle.wm_syntax.specs.declared.instructions.Op.TheVariants as op
 use Rattle.wm_syntax.specs.declared.profile.Profile.{Profile}
 use Rattle.wm_syntax.specs.Spelling.{Form, Exactly, Each, ◌▸◌}
 use Rattle.wm_syntax.specs.Types.{SpellsU32, SpellsBytes, SpellsList, SpellsSignature, SpellsLimits, SpellsTableType, SpellsGlobalType}
-use Rattle.wm_syntax.specs.Instructions.{Instructions, SpellsExpression, SpellsOp, HasOps}
-use Rattle.wm_syntax.specs.Modules.{Element, Function, Module, Segment, constant, constant_body, locals_of}
+use Rattle.wm_syntax.specs.Instructions.{Instructions, HasOps}
+use Rattle.wm_syntax.specs.Encodings.{SpellsExpression, SpellsOp}
+use Rattle.wm_syntax.specs.Modules.{Element, Function, Module, Segment, constant, constant_body, locals_of, GlobalDef}
 use Rattle.wm_syntax.specs.Profiles.{Extends, HasConst, HasFunction, HasGlobal, HasInstructions, HasSignature, HasType, IsOpOf, IsOf}
 use Rattle.wm_syntax.proofs.Flat.{each_append, each_one, each_split, each_only, ops_of_instructions, spelled_by_ops}
 use Rattle.wm_syntax.proofs.ProfileLaws.{all_append, all_front, by_ops, type_more}
@@ -19,6 +20,8 @@ use Rattle.wm_machine.specs.Grammar.{HasGlobalType}
 use Rattle.wm_machine.specs.Flat.{FlatModule, HasImport, SpellsOps, SpellsFlatGlobal, SpellsFlatElement, SpellsFlatCode, SpellsFlatSegment, InOrder, flat_sections, SpellsFlat, constant_ops, IsIndexOf, IsCodeOf, IsGlobalOf, IsElementOf, IsSegmentOf, IsFlatOf}
 use Rattle.wm_machine.proofs.ExpressionOps.{is_expression}
 use Rattle.wm_machine.proofs.Those.{those_from, those_to}
+use Rattle.wm_syntax.specs.declared.profile.Feature.TheVariants.{LongIndex}
+use Rattle.wm_syntax.proofs.SpelledMore.{expression_spelled_more}
 
 -- The bytes of a value for which G holds are those of a flat one of it, and the other way round.
 record Nests {X Y : Type 0} (G : X → Type 0) (V : X → Form ℕ) (W : Y → Form ℕ) (R : X → Y → Type 0) : Type 0 where
@@ -137,21 +140,21 @@ nests_end = record { to = λ x b g h. (tt, tt, h); from = λ x y b r h. (tt, h) 
 abbrev HasAllOps : Instructions → Form Op
 HasAllOps s = HasOps s ▸ Exactly (op.End ∷ [])
 
-expression_from : (s : Instructions) (ops : List Op) (b : List ℕ) → HasAllOps s ops → Each SpellsOp ops b → SpellsExpression s b
-expression_from s ops b r h =
-    let c = each_split SpellsOp r.0 (op.End ∷ []) b (subst (λ o. Each SpellsOp o b) (r.2 ∙ ap (λ o. r.0 ++ o) r.4) h) in
-    (c.0, c.1, c.2, spelled_by_ops s r.0 c.0 r.3 c.3, each_only SpellsOp op.End c.1 c.4)
-
 module _ (p : Profile) where
-  expression_to : (s : Instructions) (b : List ℕ) → HasInstructions p s → SpellsExpression s b → (ops : List Op) × HasAllOps s ops × SpellsOps p ops b
+  expression_from : (s : Instructions) (ops : List Op) (b : List ℕ) → HasAllOps s ops → Each (SpellsOp p) ops b → SpellsExpression p s b
+  expression_from s ops b r h =
+      let c = each_split (SpellsOp p) r.0 (op.End ∷ []) b (subst (λ o. Each (SpellsOp p) o b) (r.2 ∙ ap (λ o. r.0 ++ o) r.4) h) in
+      (c.0, c.1, c.2, spelled_by_ops p s r.0 c.0 r.3 c.3, each_only (SpellsOp p) op.End c.1 c.4)
+
+  expression_to : (s : Instructions) (b : List ℕ) → HasInstructions p s → SpellsExpression p s b → (ops : List Op) × HasAllOps s ops × SpellsOps p ops b
   expression_to s b g h =
-      let o = ops_of_instructions s h.0 h.3 in (
+      let o = ops_of_instructions p s h.0 h.3 in (
         o.0 ++ op.End ∷ [],
         (o.0, op.End ∷ [], refl, o.1, refl),
         (
           is_expression s o.0 o.1,
           all_append (IsOpOf p) o.0 (op.End ∷ []) ((by_ops p s o.0 o.1).0 g) (tt, tt),
-          subst (Each SpellsOp (o.0 ++ op.End ∷ [])) (sym h.2) (each_append SpellsOp o.0 (op.End ∷ []) h.0 h.1 o.2 (each_one SpellsOp op.End h.1 h.4)),
+          subst (Each (SpellsOp p) (o.0 ++ op.End ∷ [])) (sym h.2) (each_append (SpellsOp p) o.0 (op.End ∷ []) h.0 h.1 o.2 (each_one (SpellsOp p) op.End h.1 h.4)),
         ),
       )
 
@@ -162,12 +165,12 @@ module _ (p : Profile) where
   constant_only : (c : Const) (ops : List Op) → HasAllOps (constant_body c) ops → ops ≡ constant_ops c
   constant_only c ops (x, y, e, (u, v, f, k, l), m) = cc
 
-  constant_to : (c : Const) (b : List ℕ) → HasConst p c → SpellsConst c b → SpellsOps p (constant_ops c) b
+  constant_to : (c : Const) (b : List ℕ) → HasConst p c → SpellsConst p c b → SpellsOps p (constant_ops c) b
   constant_to c b g h =
       let e = expression_to (constant_body c) b (tt, g) h in
       subst (λ ops. SpellsOps p ops b) (constant_only c e.0 e.1) e.2
 
-  constant_from : (c : Const) (ops : List Op) (b : List ℕ) → ops ≡ constant_ops c → SpellsOps p ops b → SpellsConst c b
+  constant_from : (c : Const) (ops : List Op) (b : List ℕ) → ops ≡ constant_ops c → SpellsOps p ops b → SpellsConst p c b
   constant_from c ops b e h =
       let i = op.Simple (constant c) ∷ [] in
       expression_from (constant_body c) ops b (i, op.End ∷ [], e, ([], i, refl, refl, refl), refl) h.2
@@ -180,7 +183,7 @@ module _ (p : Profile) where
   nests_index : Nests Always (λ f. SpellsU32 f.type_index) SpellsU32 IsIndexOf
   nests_index = record { to = λ f b g h. (f.type_index, refl, h); from = λ f x b r h. (tt, subst (λ y. SpellsU32 y b) r h) }
 
-  nests_global : Nests (HasGlobal p) SpellsGlobal (SpellsFlatGlobal p) IsGlobalOf
+  nests_global : Nests (HasGlobal p) (SpellsGlobal p) (SpellsFlatGlobal p) IsGlobalOf
   nests_global = record {
     to = λ g b a h. (record { ty = g.ty; init = constant_ops g.init }, (refl, refl), (h.0, h.1, h.2, (a.0, h.3), constant_to g.init h.1 a.1 h.4));
     from = λ g v b r h.
@@ -193,7 +196,7 @@ module _ (p : Profile) where
   abbrev OffsetOf : Element → Type 0
   OffsetOf e = HasConst p e.offset
 
-  nests_element : Nests OffsetOf SpellsElement (SpellsFlatElement p) IsElementOf
+  nests_element : Nests OffsetOf (SpellsElement p) (SpellsFlatElement p) IsElementOf
   nests_element = record {
     to = λ e b a h.
         let i = h.4 in
@@ -208,7 +211,7 @@ module _ (p : Profile) where
   abbrev PlaceOf : Segment → Type 0
   PlaceOf s = HasConst p s.offset
 
-  nests_segment : Nests PlaceOf SpellsSegment (SpellsFlatSegment p) IsSegmentOf
+  nests_segment : Nests PlaceOf (SpellsSegment p) (SpellsFlatSegment p) IsSegmentOf
   nests_segment = record {
     to = λ s b a h.
         let i = h.4 in
@@ -328,7 +331,24 @@ module _ (p : Profile) where
   flat_from m v b r h = let u = nests_module.from m v b r h.1 in (u.1, u.0)
 
 -- what is spelled under a profile is so under each that has as much
+module _ {X : Type 0} (V W : X → Form ℕ) (more : (x : X) (b : List ℕ) → V x b → W x b) where
+  pub each_more : (xs : List X) (b : List ℕ) → Each V xs b → Each W xs b
+  each_more [] b h = h
+  each_more (x ∷ xs) b h = (h.0, h.1, h.2, more x h.0 h.3, each_more xs h.1 h.4)
+
+  section_more : (id : ℕ) (xs : List X) (b : List ℕ) → ListSection id V xs b → ListSection id W xs b
+  section_more id xs b h = elim h [
+    | inl s ↦ (
+        let i = s.4 in
+        let j = i.4 in
+        inl (s.0, s.1, s.2, s.3, (i.0, i.1, i.2, i.3, (j.0, j.1, j.2, j.3, each_more xs j.1 j.4))))
+    | inr e ↦ inr e
+  ]
+
 module _ (p q : Profile) (more : Extends q p) where
+  const_more : (c : Const) (b : List ℕ) → SpellsConst p c b → SpellsConst q c b
+  const_more c b h = expression_spelled_more p q (more LongIndex) (constant_body c) b h
+
   runs_more : (runs : List (ℕ × ValType)) (b : List ℕ) → Each (SpellsRun p) runs b → Each (SpellsRun q) runs b
   runs_more [] b h = h
   runs_more (r ∷ runs) b h = (h.0, h.1, h.2, (type_more p q more r.1 h.3.0, h.3.1), runs_more runs h.1 h.4)
@@ -338,22 +358,17 @@ module _ (p q : Profile) (more : Extends q p) where
       let i = h.4 in
       let l = i.3 in
       let j = l.3 in
-      (h.0, h.1, h.2, h.3, (i.0, i.1, i.2, (l.0, l.1, l.2, (j.0, j.1, j.2, j.3, runs_more l.0 j.1 j.4)), i.4))
+      (h.0, h.1, h.2, h.3, (i.0, i.1, i.2, (l.0, l.1, l.2, (j.0, j.1, j.2, j.3, runs_more l.0 j.1 j.4)), expression_spelled_more p q (more LongIndex) f.body i.1 i.4))
 
-  codes_more : (fs : List Function) (b : List ℕ) → Each (SpellsCode p) fs b → Each (SpellsCode q) fs b
-  codes_more [] b h = h
-  codes_more (f ∷ fs) b h = (h.0, h.1, h.2, code_more f h.0 h.3, codes_more fs h.1 h.4)
+  global_more : (g : GlobalDef) (b : List ℕ) → SpellsGlobal p g b → SpellsGlobal q g b
+  global_more g b h = (h.0, h.1, h.2, h.3, const_more g.init h.1 h.4)
 
-  section_more : (fs : List Function) (b : List ℕ) → ListSection 10 (SpellsCode p) fs b → ListSection 10 (SpellsCode q) fs b
-  section_more fs b h = elim h [
-    | inl s ↦ (
-        let i = s.4 in
-        let j = i.4 in
-        inl (s.0, s.1, s.2, s.3, (i.0, i.1, i.2, i.3, (j.0, j.1, j.2, j.3, codes_more fs j.1 j.4))))
-    | inr e ↦ inr e
-  ]
+  element_more : (e : Element) (b : List ℕ) → SpellsElement p e b → SpellsElement q e b
+  element_more e b h = let i = h.4 in (h.0, h.1, h.2, h.3, (i.0, i.1, i.2, const_more e.offset i.0 i.3, i.4))
 
-  -- all before the tenth section is as it was, and all after it
+  segment_more : (s : Segment) (b : List ℕ) → SpellsSegment p s b → SpellsSegment q s b
+  segment_more s b h = let i = h.4 in (h.0, h.1, h.2, h.3, (i.0, i.1, i.2, const_more s.offset i.0 i.3, i.4))
+
   pub spells_more : (m : Module) (b : List ℕ) → SpellsModule p m b → SpellsModule q m b
   spells_more m b h =
       let h1 = h.4 in
@@ -376,4 +391,6 @@ module _ (p q : Profile) (more : Extends q p) where
       let h18 = h17.4 in
       let h19 = h18.4 in
       let h20 = h19.4 in
-      (h.0, h.1, h.2, h.3, (h1.0, h1.1, h1.2, h1.3, (h2.0, h2.1, h2.2, h2.3, (h3.0, h3.1, h3.2, h3.3, (h4.0, h4.1, h4.2, h4.3, (h5.0, h5.1, h5.2, h5.3, (h6.0, h6.1, h6.2, h6.3, (h7.0, h7.1, h7.2, h7.3, (h8.0, h8.1, h8.2, h8.3, (h9.0, h9.1, h9.2, h9.3, (h10.0, h10.1, h10.2, h10.3, (h11.0, h11.1, h11.2, h11.3, (h12.0, h12.1, h12.2, h12.3, (h13.0, h13.1, h13.2, h13.3, (h14.0, h14.1, h14.2, h14.3, (h15.0, h15.1, h15.2, h15.3, (h16.0, h16.1, h16.2, h16.3, (h17.0, h17.1, h17.2, h17.3, (h18.0, h18.1, h18.2, h18.3, (h19.0, h19.1, h19.2, h19.3, (h20.0, h20.1, h20.2, section_more m.functions h20.0 h20.3, h20.4)))))))))))))))))))))
+      let h21 = h20.4 in
+      let h22 = h21.4 in
+      (h.0, h.1, h.2, h.3, (h1.0, h1.1, h1.2, h1.3, (h2.0, h2.1, h2.2, h2.3, (h3.0, h3.1, h3.2, h3.3, (h4.0, h4.1, h4.2, h4.3, (h5.0, h5.1, h5.2, h5.3, (h6.0, h6.1, h6.2, h6.3, (h7.0, h7.1, h7.2, h7.3, (h8.0, h8.1, h8.2, h8.3, (h9.0, h9.1, h9.2, h9.3, (h10.0, h10.1, h10.2, h10.3, (h11.0, h11.1, h11.2, h11.3, (h12.0, h12.1, h12.2, section_more (SpellsGlobal p) (SpellsGlobal q) global_more 6 m.globals h12.0 h12.3, (h13.0, h13.1, h13.2, h13.3, (h14.0, h14.1, h14.2, h14.3, (h15.0, h15.1, h15.2, h15.3, (h16.0, h16.1, h16.2, h16.3, (h17.0, h17.1, h17.2, h17.3, (h18.0, h18.1, h18.2, section_more (SpellsElement p) (SpellsElement q) element_more 9 m.elements h18.0 h18.3, (h19.0, h19.1, h19.2, h19.3, (h20.0, h20.1, h20.2, section_more (SpellsCode p) (SpellsCode q) code_more 10 m.functions h20.0 h20.3, (h21.0, h21.1, h21.2, h21.3, (h22.0, h22.1, h22.2, section_more (SpellsSegment p) (SpellsSegment q) segment_more 11 m.segments h22.0 h22.3, h22.4)))))))))))))))))))))))

@@ -1,9 +1,11 @@
 -- The number that is being read in a state; each rest of it can follow there.
-use Rattle.std.proofs.Common.{ℕ, suc, true, false, List, [], ◌∷◌, ◌++◌, Option, Some, None, ℤ, refl, sym, subst, arith, append-nil}
+use Rattle.std.proofs.Common.{ℕ, suc, Bool, true, false, inl, inr, List, [], ◌∷◌, ◌++◌, Option, Some, None, ℤ, refl, sym, subst, arith, append-nil}
 use Rattle.wm_syntax.specs.declared.profile.Profile.{Profile}
 use Rattle.wm_syntax.specs.inner.Numbers.{Partial, UnsignedRest, SignedRest}
 use Rattle.wm_syntax.specs.exact.Reading.{fresh}
 use Rattle.wm_syntax.specs.Spelling.{Form}
+use Rattle.wm_syntax.specs.Profiles.{has}
+use Rattle.wm_syntax.specs.declared.profile.Feature.TheVariants.{LongIndex}
 use Rattle.wm_syntax.specs.declared.types.ValType.TheVariants.{I32}
 use Rattle.wm_syntax.specs.declared.instructions.Op.{Op}
 use Rattle.wm_syntax.specs.declared.modules.ImportDesc.TheVariants as desc
@@ -39,7 +41,7 @@ use Rattle.wm_machine.specs.Grammar.{Run, Expression, ValueType, ResultTypes, lo
 use Rattle.wm_machine.specs.exact.Members.{id_of}
 use Rattle.wm_machine.specs.exact.OpSteps.{index_op, call_op, const_32_op, const_64_op}
 use Rattle.wm_machine.specs.exact.Runs.{name_item, plain_item}
-use Rattle.wm_machine.specs.Meanings.{Integer, u32, s32, s64}
+use Rattle.wm_machine.specs.Meanings.{Integer, u32, u32_zero, s32, s64}
 use Rattle.wm_machine.proofs.Numbers.{Left}
 use Rattle.wm_machine.proofs.OpSound.{last_byte}
 use Rattle.wm_machine.proofs.OpRest.{op_rest, at_offset}
@@ -55,19 +57,26 @@ use Rattle.wm_machine.proofs.OpenMembers.{Comes, some_then, some_times, some_fil
 use Rattle.wm_machine.proofs.WholeMachine.{KnownIn, Later, After, InSize as InSectionSize, Listed as ListedMembers, ListOf, Within, MachineRest}
 use Rattle.wm_machine.proofs.Fronts.{some_later, some_after, some_size as some_section_size, some_listed as some_listed_members}
 use Rattle.wm_machine.proofs.MustStand.{ValuesCan, PartsCan, within_can, leaf_can, then_can, sized_can, entry_can, filled_can, led_can}
+use Rattle.std.specs.Prelude.{if◌then◌else◌}
+use Rattle.wm_machine.proofs.TableIndex.{Zeros, bool_cases}
 
--- the number that a state is in, and what was read of it
+-- The number that a state is in, and what was read of it. Of a table index it is how many bytes may still come before
+-- the last.
+abbrev pub at_zeros : ℕ → Partial
+at_zeros left = record { low = left; count = 0 }
+
 abbrev pub Num : Type 0
 Num = Option (Integer × Partial)
 
-abbrev pub num_op : InOp → Num
-num_op (in_op.Index i r) = Some (u32, r)
-num_op (in_op.CallType r) = Some (u32, r)
-num_op (in_op.Const32 r) = Some (s32, r)
-num_op (in_op.Const64 r) = Some (s64, r)
-num_op (in_op.Align a r) = Some (u32, r)
-num_op (in_op.Offset a n r) = Some (u32, r)
-num_op _ = None
+abbrev pub num_op : Profile → InOp → Num
+num_op p (in_op.Index i r) = Some (u32, r)
+num_op p (in_op.CallType r) = Some (u32, r)
+num_op p (in_op.CallTable n left) = if has p LongIndex then Some (u32_zero, at_zeros left) else None
+num_op p (in_op.Const32 r) = Some (s32, r)
+num_op p (in_op.Const64 r) = Some (s64, r)
+num_op p (in_op.Align a r) = Some (u32, r)
+num_op p (in_op.Offset a n r) = Some (u32, r)
+num_op p _ = None
 
 abbrev pub num_limits : InLimits → Num
 num_limits limits.Flag = None
@@ -102,43 +111,44 @@ num_value (value.Table t) = num_table t
 num_value (value.Memory l) = num_limits l
 num_value (value.Export t) = num_target t
 
-abbrev pub num_expression : InExpression → Num
-num_expression (expression.Op depth q) = num_op q
-num_expression (expression.Label depth left r) = Some (u32, r)
-num_expression e = None
+abbrev pub num_expression : Profile → InExpression → Num
+num_expression p (expression.Op depth q) = num_op p q
+num_expression p (expression.Label depth left r) = Some (u32, r)
+num_expression p e = None
 
-abbrev pub num_entry : InEntry → Num
-num_entry (entry.RunCount r) = Some (u32, r)
-num_entry (entry.Run more r) = num_run r
-num_entry (entry.Body e) = num_expression e
-num_entry q = None
+abbrev pub num_entry : Profile → InEntry → Num
+num_entry p (entry.RunCount r) = Some (u32, r)
+num_entry p (entry.Run more r) = num_run r
+num_entry p (entry.Body e) = num_expression p e
+num_entry p q = None
 
-abbrev pub num_member : InMember → Num
-num_member (at.ParamCount r) = Some (u32, r)
-num_member (at.ResultCount r) = Some (u32, r)
-num_member (at.NameLength of r) = Some (u32, r)
-num_member (at.Value v) = num_value v
-num_member (at.Index of r) = Some (u32, r)
-num_member (at.Constant of e) = num_expression e
-num_member (at.Length of r) = Some (u32, r)
-num_member (at.EntrySize r) = Some (u32, r)
-num_member (at.Entry more q) = num_entry q
-num_member q = None
+abbrev pub num_member : Profile → InMember → Num
+num_member p (at.ParamCount r) = Some (u32, r)
+num_member p (at.ResultCount r) = Some (u32, r)
+num_member p (at.NameLength of r) = Some (u32, r)
+num_member p (at.Value v) = num_value v
+num_member p (at.Index of r) = Some (u32, r)
+num_member p (at.Constant of e) = num_expression p e
+num_member p (at.Length of r) = Some (u32, r)
+num_member p (at.EntrySize r) = Some (u32, r)
+num_member p (at.Entry more q) = num_entry p q
+num_member p q = None
 
 abbrev pub num_custom : InCustom → Num
 num_custom (custom.Length r) = Some (u32, r)
 num_custom q = None
 
-abbrev pub num_machine : Machine → Num
-num_machine (machine.CustomSize last functions r) = Some (u32, r)
-num_machine (machine.Custom last functions more q) = num_custom q
-num_machine (machine.Size of functions r) = Some (u32, r)
-num_machine (machine.Count of functions more r) = Some (u32, r)
-num_machine (machine.Section of functions more left q) = num_member q
-num_machine m = None
+abbrev pub num_machine : Profile → Machine → Num
+num_machine p (machine.CustomSize last functions r) = Some (u32, r)
+num_machine p (machine.Custom last functions more q) = num_custom q
+num_machine p (machine.Size of functions r) = Some (u32, r)
+num_machine p (machine.Count of functions more r) = Some (u32, r)
+num_machine p (machine.Section of functions more left q) = num_member p q
+num_machine p m = None
 
 abbrev pub RestOf : Integer → Partial → Form ℕ
 RestOf u32 r b = (n : ℕ) × UnsignedRest 32 r n b
+RestOf u32_zero r b = Zeros r.low b
 RestOf s32 r b = (z : ℤ) × SignedRest 32 r z b
 RestOf s64 r b = (z : ℤ) × SignedRest 64 r z b
 
@@ -197,16 +207,27 @@ module _ (p : Profile) where
   value_can (value.Export t) b w = within_can (Rests (num_target t)) (target_rest t) (λ x. plain.Export x.0 x.1) (target_can t) b w
 
   -- ops
-  op_can : (q : InOp) → ValuesCan (Rests (num_op q)) (op_rest p q)
+  table_index_can : (n left : ℕ) → ValuesCan (Rests (num_op p (in_op.CallTable n left))) (op_rest p (in_op.CallTable n left))
+  table_index_can n left b w = elim (bool_cases (has p LongIndex)) [
+    | inl y ↦
+        let z : Zeros left b = subst (λ (q : Bool). Rests (if q then Some (u32_zero, at_zeros left) else None) b) y w in
+        ([], call_op n, (refl, inr (y, subst (Zeros left) (sym (append-nil b)) z)))
+    | inr k ↦ absurd (subst (λ (q : Bool). Rests (if q then Some (u32_zero, at_zeros left) else None) b) k w)
+  ]
+
+  op_can : (q : InOp) → ValuesCan (Rests (num_op p q)) (op_rest p q)
   op_can (in_op.Index i r) b w = ([], index_op i w.0, (w.0, refl, ends_here (Left r) w.0 b w.1))
-  op_can (in_op.CallType r) b w = (0x00 ∷ [], call_op w.0, (w.0, b, 0x00 ∷ [], refl, w.1, (refl, refl)))
+  op_can (in_op.CallType r) b w = (0x00 ∷ [], call_op w.0, (w.0, b, 0x00 ∷ [], refl, w.1, (refl, inl refl)))
   op_can (in_op.Const32 r) b w = ([], const_32_op w.0, (w.0, refl, ends_here (SignedRest 32 r) w.0 b w.1))
   op_can (in_op.Const64 r) b w = ([], const_64_op w.0, (w.0, refl, ends_here (SignedRest 64 r) w.0 b w.1))
   op_can (in_op.Align a r) b w = (0 ∷ [], at_offset a w.0 0, (w.0, b, 0 ∷ [], refl, w.1, (0, refl, last_byte fresh (omega arith))))
   op_can (in_op.Offset a n r) b w = ([], at_offset a n w.0, (w.0, refl, ends_here (Left r) w.0 b w.1))
   op_can in_op.First b w = absurd w
+  op_can in_op.Code b w = absurd w
+  op_can (in_op.Padding n left) b w = absurd w
+  op_can in_op.FirstZero b w = absurd w
   op_can (in_op.BlockType i) b w = absurd w
-  op_can (in_op.CallTable n) b w = absurd w
+  op_can (in_op.CallTable n left) b w = table_index_can n left b w
   op_can (in_op.Memory m) b w = absurd w
   op_can (in_op.Float32 left low) b w = absurd w
   op_can (in_op.Float64 left low) b w = absurd w
@@ -214,14 +235,14 @@ module _ (p : Profile) where
   labels_come : (part : Op → Item) (depth left : ℕ) → Comes (OpsFrom p part depth left)
   labels_come part depth left = let s = some_ops p part depth left in record { bytes = s.0; marks = s.1; spelled = s.2 }
 
-  expression_can : (part : Op → Item) (e : InExpression) → PartsCan (Rests (num_expression e)) (ExpressionRest p part e)
-  expression_can part (expression.Op depth q) b w = led_can (Rests (num_op q)) p part depth q (op_can q) b w
+  expression_can : (part : Op → Item) (e : InExpression) → PartsCan (Rests (num_expression p e)) (ExpressionRest p part e)
+  expression_can part (expression.Op depth q) b w = led_can (Rests (num_op p q)) p part depth q (op_can q) b w
   expression_can part (expression.Label depth left r) b w = counted_can r (label_part p part) (λ l. OpsFrom p part depth left) (λ l. labels_come part depth left) b w
   expression_can part expression.Over b w = absurd w
   expression_can part (expression.Failed v) b w = absurd w
 
   -- code entries
-  in_entry_can : (q : InEntry) → PartsCan (Rests (num_entry q)) (EntryRest loose p q)
+  in_entry_can : (q : InEntry) → PartsCan (Rests (num_entry p q)) (EntryRest loose p q)
   in_entry_can (entry.RunCount r) b w = counted_can r nothing_at (λ n. Then (Times n (Run p)) (Expression p body_op)) (some_runs p) b w
   in_entry_can (entry.Run more r) b w =
       let W : Form ℕ = Rests (num_run r) in
@@ -231,17 +252,17 @@ module _ (p : Profile) where
   in_entry_can (entry.Failed v) b w = absurd w
 
   -- members
-  member_can : (q : InMember) (y : List ℕ) → PartsCan (Rests (num_member q)) (ComponentRest loose p q y)
+  member_can : (q : InMember) (y : List ℕ) → PartsCan (Rests (num_member p q)) (ComponentRest loose p q y)
   member_can (at.ParamCount r) y b w = counted_can r nothing_at (λ n. Then (Times n (ValueType p param)) (ResultTypes p)) (after_params p) b w
   member_can (at.ResultCount r) y b w = counted_can r (λ n. Some (result_count n)) (λ n. Times n (ValueType p one_result)) (λ n. some_times n (ValueType p one_result) (some_type p one_result)) b w
   member_can (at.NameLength of r) y b w = then_can (RestOf u32 r) (TextLeft loose r (name_item of)) (AfterName loose p of) (text_can r (name_item of)) (after_name p of) b w
   member_can (at.Value v) y b w = leaf_can (Rests (num_value v)) (value_rest p v) plain_item (value_can v) b w
   member_can (at.Index of r) y b w = counted_can r (index_mark loose p of) (λ n. AfterIndex loose p of) (λ n. after_index p of) b w
-  member_can (at.Constant of e) y b w = then_can (Rests (num_expression e)) (ExpressionRest p const_op e) (AfterConstant loose p of) (expression_can const_op e) (after_constant p of) b w
+  member_can (at.Constant of e) y b w = then_can (Rests (num_expression p e)) (ExpressionRest p const_op e) (AfterConstant loose p of) (expression_can const_op e) (after_constant p of) b w
   member_can (at.Length of r) y b w = counted_can r nothing_at (λ n. Times n (Listed loose p of)) (λ n. some_times n (Listed loose p of) (some_listed p of)) b w
   member_can (at.EntrySize r) y b w = counted_can r (λ n. Some body) (InSize loose p) (some_size p) b w
   member_can (at.Entry more q) y b w =
-      let W : Form ℕ = Rests (num_entry q) in
+      let W : Form ℕ = Rests (num_entry p q) in
       sized_can W (suc more) (Entry (EntryRest loose p q)) (entry_can W (EntryRest loose p q) (in_entry_can q)) b w
   member_can at.TypeForm y b w = absurd w
   member_can (at.Param more) y b w = absurd w
@@ -256,7 +277,7 @@ module _ (p : Profile) where
   named_then : (last functions n : ℕ) → Comes (Then (Filled loose n (Name loose unnamed)) (Later loose p last functions))
   named_then last functions n = some_then (Filled loose n (Name loose unnamed)) (Later loose p last functions) (some_filled n (Name loose unnamed) (some_name unnamed)) (some_later p last functions)
 
-  pub number_can : (m : Machine) (y : List ℕ) → PartsCan (Rests (num_machine m)) (MachineRest loose p m y)
+  pub number_can : (m : Machine) (y : List ℕ) → PartsCan (Rests (num_machine p m)) (MachineRest loose p m y)
   number_can (machine.CustomSize last functions r) y b w = counted_can r nothing_at (λ n. Then (Filled loose n (Name loose unnamed)) (Later loose p last functions)) (named_then last functions) b w
   number_can (machine.Custom last functions more (custom.Length r)) y b w =
       let T : MarkedForm = TextLeft loose r unnamed in
@@ -272,7 +293,7 @@ module _ (p : Profile) where
       let v : PartsCan W (L functions) = sized_can W (suc more) (ListedMembers loose p of r functions) (counted_can r nothing_at (ListOf loose p of functions) (some_listed_members p of functions)) in
       for_can W (KnownIn (id_of of) functions) (λ f. Then (L f) (After loose p of f)) functions (λ l. refl) (then_can W (L functions) (After loose p of functions) v (some_after p of functions)) b w
   number_can (machine.Section of functions more left q) y b w =
-      let W : Form ℕ = Rests (num_member q) in
+      let W : Form ℕ = Rests (num_member p q) in
       let M : MarkedForm = Times left (OneOf loose p of) in
       let v : PartsCan W (Within loose p of left q y) = then_can W (ComponentRest loose p q y) M (member_can q y) (some_times left (OneOf loose p of) (some_one p of)) in
       then_can W (Sized loose (suc more) (Within loose p of left q y)) (Later loose p (id_of of) functions) (sized_can W (suc more) (Within loose p of left q y) v) (some_later p (id_of of) functions) b w

@@ -13,22 +13,27 @@ use Rattle.wm_syntax.specs.declared.profile.Profile.{Profile}
 use Rattle.wm_syntax.specs.declared.types.ValType.{ValType}
 use Rattle.wm_syntax.specs.Types.{block_byte}
 use Rattle.wm_syntax.proofs.SameTypes.{block_tells}
-use Rattle.wm_syntax.specs.OpClasses.{class_of, first_byte}
-use Rattle.wm_syntax.specs.Opcodes.{opcode}
+use Rattle.wm_syntax.specs.OpClasses.{class_of}
 use Rattle.wm_syntax.specs.Spelling.{Form, Byte as OneByte, ◌▸◌}
 use Rattle.wm_syntax.specs.Types.{SpellsU32, SpellsBlockType, SpellsGlobalType, SpellsValType}
 use Rattle.wm_syntax.specs.Profiles.{HasDesc, HasType}
-use Rattle.wm_syntax.specs.Instructions.{SpellsOp}
+use Rattle.wm_syntax.specs.Encodings.{SpellsOp}
 use Rattle.wm_syntax.proofs.Unambiguous.{same_u32, same_simple}
-use Rattle.wm_syntax.proofs.OneInstruction.{class_there}
+use Rattle.wm_syntax.proofs.OneInstruction.{apart_op, class_there}
+use Rattle.wm_syntax.proofs.CodeBytes.{same_code}
+use Rattle.wm_machine.proofs.OpBytes.{NoLabel, code_first, has_first}
 use Rattle.wm_machine.specs.Sections.{SpellsDesc, kind_byte, header}
 use Rattle.wm_machine.specs.Items.{Item, entry, closing, Mark, Marks, new_type, param, result_count, one_result, import_module, import_name, import_desc, function, table, memory, global, const_op, export_name, export, start, element, element_function, body, locals, body_op, segment, data_byte}
 use Rattle.wm_machine.specs.MarkedForms.{MarkedForm, Empty, MarkedByte, Literal, Then, Times, Leaf, MarkedNumber, Vector, Index, Name, Sized, Filled, Entry, nothing_at, outside_mark, marks_ending, name_byte_marks, name_marks, in_zone, entry_marks}
 use Rattle.wm_machine.specs.Grammar.{loose, ValueType, ResultTypes, FunctionType, ImportForm, HasLabels, IsExpression, EachOp, Expression, Global, HasGlobalType, ExportForm, ElementForm, Run, Code, DataByte, SegmentForm, Paired, Contents, Section, Custom, Optional, Chain, ModuleForm}
 use Rattle.wm_syntax.specs.Instructions.{openings, endings}
 use Rattle.wm_machine.specs.Fronts.{IsFront}
-use Rattle.wm_machine.proofs.FirstBytes.{head_same, tail_same, not_nil}
+use Rattle.wm_machine.proofs.FirstBytes.{tail_same, not_nil}
 use Rattle.wm_machine.proofs.OneSpelling.{Same, Once, byte_same, same_as, tagged, once_then, once_type, once_those, once_limits, once_table, once_global_type, once_desc, once_kind, once_run}
+use Rattle.wm_syntax.specs.Profiles.{every}
+use Rattle.wm_syntax.specs.declared.profile.Feature.TheVariants.{LongIndex}
+use Rattle.wm_syntax.proofs.ProfileLaws.{every_extends}
+use Rattle.wm_syntax.proofs.SpelledMore.{op_spelled_more}
 
 abbrev Done : Type 0
 Done = Unit {0}
@@ -241,43 +246,27 @@ simple_rank : (i : Simple) → rank (class_of (op.Simple i)) ≡ 0
 simple_rank (simple.Br l) = refl
 simple_rank _ = refl
 
--- the byte that an op begins with, and what follows it
-record Begins (o : Op) (a : List ℕ) : Type 0 where
-  byte : ℕ
-  rest : List ℕ
-  bytes : a ≡ byte ∷ rest
-  first : first_byte o ≡ Some byte
-
-begins_at : (o : Op) (c : ℕ) (a x y : List ℕ) → a ≡ x ++ y → x ≡ c ∷ [] → first_byte o ≡ Some c → Begins o a
-begins_at o c a x y e h f = record { byte = c; rest = y; bytes = e ∙ ap (λ (z : List ℕ). z ++ y) h; first = f }
-
-op_begins : (o : Op) (a : List ℕ) → IsDue zero o → SpellsOp o a → Begins o a
-op_begins (op.Simple i) a d h = begins_at (op.Simple i) (opcode i).0 a h.0 h.1 h.2 h.3 refl
-op_begins (op.Block t) a d h = begins_at (op.Block t) 0x02 a h.0 h.1 h.2 h.3 refl
-op_begins (op.Loop t) a d h = begins_at (op.Loop t) 0x03 a h.0 h.1 h.2 h.3 refl
-op_begins (op.If t) a d h = begins_at (op.If t) 0x04 a h.0 h.1 h.2 h.3 refl
-op_begins op.Else a d h = record { byte = 0x05; rest = []; bytes = h; first = refl }
-op_begins op.End a d h = record { byte = 0x0B; rest = []; bytes = h; first = refl }
-op_begins (op.BrTable n) a d h = begins_at (op.BrTable n) 0x0E a h.0 h.1 h.2 h.3 refl
-op_begins (op.Label l) a d h = absurd d
-
 some_same : {X : Type 0} {x y : X} → Some x ≡ Some y → x ≡ y
 some_same e = cc
 
-same_rank : (o q : Op) → IsDue zero o → IsDue zero q → (a b u v : List ℕ) → SpellsOp o a → SpellsOp q b → a ++ u ≡ b ++ v → rank (class_of o) ≡ rank (class_of q)
+due_named : (o : Op) → IsDue zero o → NoLabel o
+due_named (op.Label l) d = absurd d
+due_named _ d = tt
+
+same_rank : (o q : Op) → IsDue zero o → IsDue zero q → (a b u v : List ℕ) → SpellsOp every o a → SpellsOp every q b → a ++ u ≡ b ++ v → rank (class_of o) ≡ rank (class_of q)
 same_rank o q d f a b u v h k e =
-    let x = op_begins o a d h in
-    let y = op_begins q b f k in
-    let whole : x.byte ∷ (x.rest ++ u) ≡ y.byte ∷ (y.rest ++ v) = sym (ap (λ (z : List ℕ). z ++ u) x.bytes) ∙ (e ∙ ap (λ (z : List ℕ). z ++ v) y.bytes) in
-    let heads : x.byte ≡ y.byte = head_same x.byte y.byte (x.rest ++ u) (y.rest ++ v) whole in
-    let there = class_there o x.byte x.first in
-    let there' = class_there q x.byte (y.first ∙ ap Some (sym heads)) in
-    ap rank (some_same (sym there ∙ there'))
+    let x = has_first o (due_named o d) in
+    let y = has_first q (due_named q f) in
+    let s = code_first every o x.0 x.1 a h in
+    let t = code_first every q y.0 y.1 b k in
+    let whole : s.0 ++ (s.1 ++ u) ≡ t.0 ++ (t.1 ++ v) = sym (append_assoc s.0 s.1 u) ∙ (ap (λ (z : List ℕ). z ++ u) (sym s.2) ∙ (e ∙ (ap (λ (z : List ℕ). z ++ v) t.2 ∙ append_assoc t.0 t.1 v))) in
+    let same : x.0 ≡ y.0 = (same_code x.0 y.0 (apart_op o x.0 x.1) (apart_op q y.0 y.1) s.0 t.0 (s.1 ++ u) (t.1 ++ v) s.3 t.3 whole).1 in
+    ap rank (some_same (sym (class_there o x.0 x.1) ∙ class_there q x.0 (y.1 ∙ ap Some (sym same))))
 
 block_type_same : (t u : Option ValType) → Same (SpellsBlockType t) (SpellsBlockType u) (t ≡ u)
 block_type_same t u = same_as (block_tells t u) (byte_same (block_byte t) (block_byte u))
 
-one_op : (o q : Op) → IsDue zero o → IsDue zero q → Same (SpellsOp o) (SpellsOp q) (o ≡ q)
+one_op : (o q : Op) → IsDue zero o → IsDue zero q → Same (SpellsOp every o) (SpellsOp every q) (o ≡ q)
 one_op (op.Label l) q d f a b u v h k e = absurd d
 one_op o (op.Label l) d f a b u v h k e = absurd f
 one_op (op.Simple i) (op.Simple j) d f a b u v h k e = let r = same_simple i j a b u v h k e in (r.0, ap op.Simple r.1)
@@ -291,7 +280,7 @@ one_op (op.Simple i) q d f a b u v h k e = let r = same_rank (op.Simple i) q d f
 one_op o (op.Simple j) d f a b u v h k e = let r = same_rank o (op.Simple j) d f a b u v h k e in absurd (omega (arith, r, simple_rank j))
 one_op o q d f a b u v h k e = let r = same_rank o q d f a b u v h k e in absurd (omega (arith, r))
 
-one_of_due : (n : ℕ) (o q : Op) → IsDue n o → IsDue n q → Same (SpellsOp o) (SpellsOp q) (o ≡ q)
+one_of_due : (n : ℕ) (o q : Op) → IsDue n o → IsDue n q → Same (SpellsOp every o) (SpellsOp every q) (o ≡ q)
 one_of_due zero o q d f = one_op o q d f
 one_of_due (suc n) (op.Label l) (op.Label m) d f = same_as (λ e. ap op.Label e) (same_u32 l m)
 one_of_due (suc n) (op.Label l) q d f = absurd f
@@ -304,8 +293,8 @@ no_more ops o more h k =
     let closed : endings ops ≡ openings ops + 1 = subst (λ y. endings y ≡ openings y + 1) all h.closed in
     elim (k.first ops (o ∷ more) refl) [ inl e ↦ not_nil o more e | inr l ↦ omega (arith, closed, l) ]
 
-module _ (part : Op → Item) where
-  ops_alike : (n : ℕ) (before ops more : List Op) → HasLabels n ops → HasLabels n more → IsExpression (before ++ ops) → IsExpression (before ++ more) → Meets (EachOp part ops) (EachOp part more) Done
+module _ (p : Profile) (part : Op → Item) where
+  ops_alike : (n : ℕ) (before ops more : List Op) → HasLabels n ops → HasLabels n more → IsExpression (before ++ ops) → IsExpression (before ++ more) → Meets (EachOp p part ops) (EachOp p part more) Done
   ops_alike n before [] [] l m e f = empty_alike
   ops_alike n before [] (q ∷ more) l m e f = λ a j b k h i. absurd (no_more before q more e f)
   ops_alike n before (o ∷ ops) [] l m e f = λ a j b k h i. absurd (no_more before o ops f e)
@@ -317,12 +306,12 @@ module _ (part : Op → Item) where
       (subst IsExpression (sym (append_assoc before (o ∷ []) ops)) e)
       (subst IsExpression (sym (append_assoc before (o ∷ []) more)) (subst (λ z. IsExpression (before ++ z ∷ more)) (sym same) f)))
     where
-      one : IsDue n o → IsDue n q → Meets (λ b k. SpellsOp o b × (k ≡ marks_ending (Some (part o)) b)) (λ b k. SpellsOp q b × (k ≡ marks_ending (Some (part q)) b)) (o ≡ q)
+      one : IsDue n o → IsDue n q → Meets (λ b k. SpellsOp p o b × (k ≡ marks_ending (Some (part o)) b)) (λ b k. SpellsOp p q b × (k ≡ marks_ending (Some (part q)) b)) (o ≡ q)
       one d g a j b k h i =
-          meet_at (o ≡ q) refl h.1 refl i.1 (meet_ending (o ≡ q) (Some (part o)) (Some (part q)) a b (λ u v e. one_of_due n o q d g a b u v h.0 i.0 e) (λ e. ap (λ y. Some (part y)) e))
+          meet_at (o ≡ q) refl h.1 refl i.1 (meet_ending (o ≡ q) (Some (part o)) (Some (part q)) a b (λ u v e. one_of_due n o q d g a b u v (op_spelled_more p every (every_extends p LongIndex) o a h.0) (op_spelled_more p every (every_extends p LongIndex) q b i.0) e) (λ e. ap (λ y. Some (part y)) e))
 
-  expression_alike : (p : Profile) → Alike (Expression p part)
-  expression_alike p a j b k h i = ops_alike 0 [] h.0 i.0 h.1.labels i.1.labels h.1 i.1 a j b k h.3 i.3
+  expression_alike : Alike (Expression p part)
+  expression_alike a j b k h i = ops_alike 0 [] h.0 i.0 h.1.labels i.1.labels h.1 i.1 a j b k h.3 i.3
 
 -- members
 value_alike : (p : Profile) (part : ValType → Item) → Alike (ValueType p part)
@@ -353,18 +342,18 @@ data_alike = leaf_alike data_once data_byte
 
 module _ (p : Profile) where
   global_alike : Alike (Global p)
-  global_alike = then_alike (leaf_alike (once_those (HasGlobalType p) SpellsGlobalType once_global_type) global) (expression_alike const_op p)
+  global_alike = then_alike (leaf_alike (once_those (HasGlobalType p) SpellsGlobalType once_global_type) global) (expression_alike p const_op)
 
   element_alike : Alike (ElementForm p)
-  element_alike = then_alike (index_alike element) (then_alike (expression_alike const_op p) (vector_alike (index_alike element_function)))
+  element_alike = then_alike (index_alike element) (then_alike (expression_alike p const_op) (vector_alike (index_alike element_function)))
 
   segment_alike : Alike (SegmentForm p)
-  segment_alike = then_alike (index_alike segment) (then_alike (expression_alike const_op p) (vector_alike data_alike))
+  segment_alike = then_alike (index_alike segment) (then_alike (expression_alike p const_op) (vector_alike data_alike))
 
   code_alike : Alike (Code loose p)
   code_alike =
       let S : ℕ → MarkedForm = λ n. Sized loose n (Entry (Then (Vector (Run p)) (Expression p body_op))) in
-      number_alike (λ n. Some body) S S (λ n. sized_meets Done n n (entry_alike (then_alike (vector_alike (run_alike p)) (expression_alike body_op p))))
+      number_alike (λ n. Some body) S S (λ n. sized_meets Done n n (entry_alike (then_alike (vector_alike (run_alike p)) (expression_alike p body_op))))
 
   -- however many functions there are
   paired_alike : {P : MarkedForm} (f g : ℕ) → Alike P → Meets (Paired loose f P) (Paired loose g P) Done

@@ -8,14 +8,15 @@ use Rattle.wm_syntax.specs.declared.modules.ExportKind.{ExportKind}
 use Rattle.wm_syntax.specs.declared.modules.ExportKind.TheVariants as kind
 use Rattle.wm_syntax.specs.Spelling.{Form, Byte, Exactly, AreBytes, Each, ◌▸◌}
 use Rattle.wm_syntax.specs.Types.{SpellsU32, SpellsBytes, SpellsName, SpellsList, SpellsValType, SpellsSignature, SpellsBounds, SpellsLimits, SpellsTableType, SpellsVar, SpellsGlobalType, type_byte}
-use Rattle.wm_syntax.specs.Instructions.{Instructions, SpellsExpression}
+use Rattle.wm_syntax.specs.Instructions.{Instructions}
+use Rattle.wm_syntax.specs.Encodings.{SpellsExpression}
 use Rattle.wm_syntax.specs.Modules.{Function, Module, constant_body}
 use Rattle.wm_syntax.proofs.Unambiguous.{same_u32}
 use Rattle.wm_syntax.proofs.OneInstruction.{one_expression}
 use Rattle.wm_machine.specs.Sections.{Sized, Those, Section, ListSection, StartSection, Custom, Customs, SpellsCustom, header, SpellsConst, SpellsDesc, SpellsImport, SpellsGlobal, SpellsExport, SpellsElement, SpellsRun, SpellsLocals, SpellsSegment, SpellsModule, kind_byte}
 use Rattle.wm_syntax.specs.declared.profile.Profile.{Profile}
-use Rattle.wm_syntax.specs.Profiles.{four}
-use Rattle.wm_syntax.proofs.ProfileLaws.{four_extends}
+use Rattle.wm_syntax.specs.Profiles.{every}
+use Rattle.wm_syntax.proofs.ProfileLaws.{every_extends}
 use Rattle.wm_machine.proofs.Nesting.{spells_more}
 use Rattle.wm_syntax.specs.Modules.{locals_of}
 use Rattle.wm_machine.proofs.OneModule.{constants_same}
@@ -181,17 +182,17 @@ once_export : Once SpellsExport
 once_export = once_as (λ e. (e.name, (e.kind, e.index))) (λ z. record { name = z.0; kind = z.1.0; index = z.1.1 }) (λ e. refl) (once_then once_name (once_then once_kind same_u32))
 
 -- what has an expression
-once_const : Once SpellsConst
-once_const c d = same_as (λ e. constants_same c d (cc)) (one_expression (constant_body c) (constant_body d))
+once_const : (p : Profile) → Once (SpellsConst p)
+once_const p c d = same_as (λ e. constants_same c d (cc)) (one_expression p p (constant_body c) (constant_body d))
 
-once_global : Once SpellsGlobal
-once_global = once_as (λ g. (g.ty, g.init)) (λ z. record { ty = z.0; init = z.1 }) (λ g. refl) (once_then once_global_type once_const)
+once_global : (p : Profile) → Once (SpellsGlobal p)
+once_global p = once_as (λ g. (g.ty, g.init)) (λ z. record { ty = z.0; init = z.1 }) (λ g. refl) (once_then once_global_type (once_const p))
 
-once_element : Once SpellsElement
-once_element = once_as (λ e. (e.table, (e.offset, e.functions))) (λ z. record { table = z.0; offset = z.1.0; functions = z.1.1 }) (λ e. refl) (once_then same_u32 (once_then once_const (once_list same_u32)))
+once_element : (p : Profile) → Once (SpellsElement p)
+once_element p = once_as (λ e. (e.table, (e.offset, e.functions))) (λ z. record { table = z.0; offset = z.1.0; functions = z.1.1 }) (λ e. refl) (once_then same_u32 (once_then (once_const p) (once_list same_u32)))
 
-once_segment : Once SpellsSegment
-once_segment = once_as (λ s. (s.memory, (s.offset, s.bytes))) (λ z. record { memory = z.0; offset = z.1.0; bytes = z.1.1 }) (λ s. refl) (once_then same_u32 (once_then once_const once_bytes))
+once_segment : (p : Profile) → Once (SpellsSegment p)
+once_segment p = once_as (λ s. (s.memory, (s.offset, s.bytes))) (λ z. record { memory = z.0; offset = z.1.0; bytes = z.1.1 }) (λ s. refl) (once_then same_u32 (once_then (once_const p) once_bytes))
 
 pub once_run : (p : Profile) → Once (SpellsRun p)
 once_run p x y a b u v h k e = once_then same_u32 once_type x y a b u v h.1 k.1 e
@@ -206,10 +207,10 @@ abbrev body_of : Function → List ValType × Instructions
 body_of f = (f.locals, f.body)
 
 abbrev SpellsBody : Profile → List ValType × Instructions → Form ℕ
-SpellsBody p z = Sized (SpellsLocals p z.0 ▸ SpellsExpression z.1)
+SpellsBody p z = Sized (SpellsLocals p z.0 ▸ SpellsExpression p z.1)
 
 once_code : (p : Profile) → Once (SpellsBody p)
-once_code p = once_sized (once_then (once_locals p) one_expression)
+once_code p = once_sized (once_then (once_locals p) (one_expression p p))
 
 -- Sections and what comes after them. A custom section begins with 0, and each other with its id.
 abbrev BeginsWith : ℕ → List ℕ → Type 0
@@ -426,12 +427,12 @@ one_under p m n b h k =
     (sections_next 3 (omega arith) (listed_of SpellsU32 (λ f. f.type_index) 3 same_u32)
     (sections_next 4 (omega arith) (listed 4 once_table)
     (sections_next 5 (omega arith) (listed 5 once_limits)
-    (sections_next 6 (omega arith) (listed 6 once_global)
+    (sections_next 6 (omega arith) (listed 6 (once_global p))
     (sections_next 7 (omega arith) (listed 7 once_export)
     (sections_next 8 (omega arith) start_section
-    (sections_next 9 (omega arith) (listed 9 once_element)
+    (sections_next 9 (omega arith) (listed 9 (once_element p))
     (sections_next 10 (omega arith) (listed_of (SpellsBody p) body_of 10 (once_code p))
-    (sections_next 11 (omega arith) (listed 11 once_segment)
+    (sections_next 11 (omega arith) (listed 11 (once_segment p))
     (sections_end 12))))))))))) in
     let u = after_header b h k in
     let e = chain.same
@@ -448,4 +449,4 @@ one_under p m n b h k =
     all
 
 pub one_spelling : (p q : Profile) (m n : Module) (b : List ℕ) → SpellsModule p m b → SpellsModule q n b → m ≡ n
-one_spelling p q m n b h k = one_under four m n b (spells_more p four (four_extends p) m b h) (spells_more q four (four_extends q) n b k)
+one_spelling p q m n b h k = one_under every m n b (spells_more p every (every_extends p) m b h) (spells_more q every (every_extends q) n b k)

@@ -1,5 +1,5 @@
--- The op that a first byte begins, and the rest of it.
-use Rattle.std.proofs.Common.{◌≡◌, IsTrue, ℕ, List, [], ◌∷◌, ◌++◌, Option, Some, refl, sym, ap, ◌∙◌, subst}
+-- The code of an op, and what follows it.
+use Rattle.std.proofs.Common.{◌≡◌, ◌⊎◌, IsTrue, ℕ, ◌<◌, ◌≤◌, List, [], ◌∷◌, ◌++◌, Option, Some, refl, sym, ap, ◌∙◌, subst, inl, inr, append-nil, arith}
 use Rattle.std.specs.Prelude.{None as Nothing}
 use Rattle.wm_syntax.specs.declared.profile.Profile.{Profile}
 use Rattle.wm_syntax.specs.declared.instructions.LoadOp.TheVariants.{F32Load, F64Load}
@@ -13,12 +13,14 @@ use Rattle.wm_syntax.specs.declared.instructions.op_class.Immediates.TheVariants
 use Rattle.wm_syntax.specs.declared.instructions.op_class.OpClass.{OpClass}
 use Rattle.wm_syntax.specs.declared.instructions.op_class.OpClass.TheVariants.{Plain, With, Float, None}
 use Rattle.wm_syntax.specs.Opcodes.{opcode, load, store}
-use Rattle.wm_syntax.specs.OpClasses.{class_of, first_byte}
+use Rattle.wm_syntax.specs.OpClasses.{class_of, code}
 use Rattle.wm_syntax.specs.Profiles.{has, feature_of, HasBlockType, IsOpOf}
 use Rattle.wm_syntax.specs.exact.ByteTable.{class_feature}
-use Rattle.wm_syntax.specs.Spelling.{Form, Byte, ◌▸◌}
-use Rattle.wm_syntax.specs.Instructions.{SpellsOp, SpellsImmediates}
-use Rattle.wm_machine.proofs.FirstBytes.{tail_same, not_nil}
+use Rattle.wm_syntax.specs.Spelling.{Form, Byte, Exactly, ◌▸◌}
+use Rattle.wm_syntax.specs.Types.{SpellsBlockType, SpellsU32}
+use Rattle.wm_syntax.specs.Encodings.{SpellsOpcode, SpellsOp, SpellsImmediates}
+use Rattle.wm_syntax.proofs.CodeBytes.{Prefixed, byte_only, byte_spells, code_forms}
+use Rattle.wm_machine.proofs.FirstBytes.{not_nil}
 
 -- an op other than a label
 abbrev pub NoLabel : Op → Type 0
@@ -59,51 +61,50 @@ of_class p (op.Loop t) h i = i
 of_class p (op.If t) h i = i
 of_class p _ h t = tt
 
--- the byte of a class
-abbrev pub kind_byte : Immediates → ℕ
-kind_byte k.Block = 0x02
-kind_byte k.Loop = 0x03
-kind_byte k.If = 0x04
-kind_byte k.Br = 0x0C
-kind_byte k.BrIf = 0x0D
-kind_byte k.BrTable = 0x0E
-kind_byte k.Call = 0x10
-kind_byte k.CallIndirect = 0x11
-kind_byte k.LocalGet = 0x20
-kind_byte k.LocalSet = 0x21
-kind_byte k.LocalTee = 0x22
-kind_byte k.GlobalGet = 0x23
-kind_byte k.GlobalSet = 0x24
-kind_byte k.MemorySize = 0x3F
-kind_byte k.MemoryGrow = 0x40
-kind_byte k.I32Const = 0x41
-kind_byte k.I64Const = 0x42
-kind_byte k.F32Const = 0x43
-kind_byte k.F64Const = 0x44
-kind_byte (k.Load o) = (load o).byte
-kind_byte (k.Store o) = (store o).byte
+-- the code of a class
+kind_code : Immediates → ℕ
+kind_code k.Block = 0x02
+kind_code k.Loop = 0x03
+kind_code k.If = 0x04
+kind_code k.Br = 0x0C
+kind_code k.BrIf = 0x0D
+kind_code k.BrTable = 0x0E
+kind_code k.Call = 0x10
+kind_code k.CallIndirect = 0x11
+kind_code k.LocalGet = 0x20
+kind_code k.LocalSet = 0x21
+kind_code k.LocalTee = 0x22
+kind_code k.GlobalGet = 0x23
+kind_code k.GlobalSet = 0x24
+kind_code k.MemorySize = 0x3F
+kind_code k.MemoryGrow = 0x40
+kind_code k.MemoryCopy = 0x10A
+kind_code k.MemoryFill = 0x10B
+kind_code k.I32Const = 0x41
+kind_code k.I64Const = 0x42
+kind_code k.F32Const = 0x43
+kind_code k.F64Const = 0x44
+kind_code (k.Load o) = (load o).byte
+kind_code (k.Store o) = (store o).byte
 
-class_byte : OpClass → Option ℕ
-class_byte (Plain o) = first_byte o
-class_byte (With kind) = Some (kind_byte kind)
-class_byte Float = Nothing
-class_byte None = Nothing
+class_code : OpClass → Option ℕ
+class_code (Plain o) = code o
+class_code (With kind) = Some (kind_code kind)
+class_code Float = Nothing
+class_code None = Nothing
 
-byte_of_class : (o : Op) → first_byte o ≡ class_byte (class_of o)
-unfolding class_byte
-byte_of_class (op.Simple (s.Load o at)) = refl
-byte_of_class (op.Simple _) = refl
-byte_of_class _ = refl
+code_of_class : (o : Op) → code o ≡ class_code (class_of o)
+unfolding class_code kind_code
+code_of_class (op.Simple (s.Load o at)) = refl
+code_of_class (op.Simple _) = refl
+code_of_class _ = refl
 
-some_same : {x y : ℕ} → Some x ≡ Some y → x ≡ y
-some_same e = cc
+-- ops of one class with immediates have one code
+pub one_code : (o q : Op) (kind : Immediates) → class_of o ≡ With kind → class_of q ≡ With kind → code o ≡ code q
+one_code o q kind e f = code_of_class o ∙ ap class_code (e ∙ sym f) ∙ sym (code_of_class q)
 
-pub with_byte : (o : Op) (kind : Immediates) (c : ℕ) → class_of o ≡ With kind → first_byte o ≡ Some c → c ≡ kind_byte kind
-unfolding class_byte
-with_byte o kind c e f = some_same (sym f ∙ (byte_of_class o ∙ ap class_byte e))
-
--- each op but a label has a first byte
-pub has_first : (o : Op) → NoLabel o → (c : ℕ) × (first_byte o ≡ Some c)
+-- each op but a label has a code
+pub has_first : (o : Op) → NoLabel o → (c : ℕ) × (code o ≡ Some c)
 has_first (op.Simple i) n = ((opcode i).0, refl)
 has_first (op.Block t) n = (0x02, refl)
 has_first (op.Loop t) n = (0x03, refl)
@@ -113,7 +114,7 @@ has_first op.End n = (0x0B, refl)
 has_first (op.BrTable m) n = (0x0E, refl)
 has_first (op.Label l) n = absurd n
 
--- an op that is its first byte alone
+-- an op that is its code alone
 pub plain_same : (o v : Op) → class_of o ≡ Plain v → o ≡ v
 plain_same (op.Simple s.Unreachable) v e = cc
 plain_same (op.Simple s.Nop) v e = cc
@@ -126,41 +127,82 @@ plain_same op.End v e = cc
 plain_same (op.Label l) v e = cc
 plain_same _ v e = cc
 
-nothing_after : (i : Simple) → class_of (op.Simple i) ≡ Plain (op.Simple i) → SpellsImmediates i []
-nothing_after s.Unreachable e = refl
-nothing_after s.Nop e = refl
-nothing_after s.Return e = refl
-nothing_after s.Drop e = refl
-nothing_after s.Select e = refl
-nothing_after (s.Numeric i) e = refl
-nothing_after _ e = cc
+-- the bytes after the code of an op
+abbrev pub AfterCode : Profile → Op → Form ℕ
+AfterCode p (op.Simple i) = SpellsImmediates p i
+AfterCode p (op.Block t) = SpellsBlockType t
+AfterCode p (op.Loop t) = SpellsBlockType t
+AfterCode p (op.If t) = SpellsBlockType t
+AfterCode p (op.BrTable n) = SpellsU32 n
+AfterCode p _ = Exactly []
 
-one_byte : {c d : ℕ} → Some d ≡ Some c → c ∷ [] ≡ d ∷ []
-one_byte e = ap (λ y. y ∷ []) (sym (some_same e))
+no_immediates : (p : Profile) (i : Simple) → class_of (op.Simple i) ≡ Plain (op.Simple i) → SpellsImmediates p i []
+no_immediates p s.Unreachable e = refl
+no_immediates p s.Nop e = refl
+no_immediates p s.Return e = refl
+no_immediates p s.Drop e = refl
+no_immediates p s.Select e = refl
+no_immediates p (s.Numeric i) e = refl
+no_immediates p _ e = cc
 
-pub plain_whole : (o : Op) (c : ℕ) → class_of o ≡ Plain o → first_byte o ≡ Some c → NoLabel o × SpellsOp o (c ∷ [])
-plain_whole (op.Simple i) c e f = (tt, (c ∷ [], [], refl, one_byte f, nothing_after i e))
-plain_whole op.Else c e f = (tt, one_byte f)
-plain_whole op.End c e f = (tt, one_byte f)
-plain_whole _ c e f = cc
+pub nothing_after : (p : Profile) (o : Op) → class_of o ≡ Plain o → AfterCode p o []
+nothing_after p (op.Simple i) e = no_immediates p i e
+nothing_after p op.Else e = refl
+nothing_after p op.End e = refl
+nothing_after p (op.Label l) e = refl
+nothing_after p _ e = cc
 
--- after the byte of an op
-pub after_byte : (x c : ℕ) (P : Form ℕ) (b : List ℕ) → (Byte x ▸ P) (c ∷ b) → P b
-after_byte x c P b (front, back, e, f, q) = subst P (sym (tail_same c x b back (e ∙ ap (λ y. y ++ back) f))) q
+-- an op is its code and what follows
+some_same : {x y : ℕ} → Some x ≡ Some y → x ≡ y
+some_same e = cc
 
-pub from_byte : (x : ℕ) (P : Form ℕ) (b : List ℕ) → P b → (Byte x ▸ P) (x ∷ b)
-from_byte x P b h = (x ∷ [], b, refl, refl, h)
+by_byte : (x c : ℕ) (P : Form ℕ) → Some x ≡ Some c → c < 0x100 → (b : List ℕ) → (Byte x ▸ P) b → (SpellsOpcode c ▸ P) b
+by_byte x c P f l b (front, back, e, h, k) = (front, back, e, byte_spells c front l (h ∙ ap (λ (n : ℕ). n ∷ []) (some_same f)), k)
 
-no_byte : (x : ℕ) (P : Form ℕ) → (Byte x ▸ P) [] → ⊥
-no_byte x P (front, back, e, f, q) = not_nil x back (sym (e ∙ ap (λ y. y ++ back) f))
+alone : (x c : ℕ) → Some x ≡ Some c → c < 0x100 → (b : List ℕ) → Byte x b → (SpellsOpcode c ▸ Exactly []) b
+alone x c f l b h = (b, [], sym (append-nil b), byte_spells c b l (h ∙ ap (λ (n : ℕ). n ∷ []) (some_same f)), refl)
+
+below : (x c : ℕ) → Some x ≡ Some c → x < 0x100 → c < 0x100
+below x c f l = subst (λ (n : ℕ). n < 0x100) (some_same f) l
+
+pub code_first : (p : Profile) (o : Op) (c : ℕ) → code o ≡ Some c → (b : List ℕ) → SpellsOp p o b → (SpellsOpcode c ▸ AfterCode p o) b
+code_first p (op.Simple i) c f b (x, y, e, h, k) = (x, y, e, subst (λ (n : ℕ). SpellsOpcode n x) (some_same f) h, k)
+code_first p (op.Block t) c f b h = by_byte 0x02 c _ f (below 0x02 c f (omega arith)) b h
+code_first p (op.Loop t) c f b h = by_byte 0x03 c _ f (below 0x03 c f (omega arith)) b h
+code_first p (op.If t) c f b h = by_byte 0x04 c _ f (below 0x04 c f (omega arith)) b h
+code_first p op.Else c f b h = alone 0x05 c f (below 0x05 c f (omega arith)) b h
+code_first p op.End c f b h = alone 0x0B c f (below 0x0B c f (omega arith)) b h
+code_first p (op.BrTable n) c f b h = by_byte 0x0E c _ f (below 0x0E c f (omega arith)) b h
+code_first p (op.Label l) c f b h = cc
+
+to_byte : (x c : ℕ) (P : Form ℕ) → Some x ≡ Some c → x < 0x100 → (b : List ℕ) → (SpellsOpcode c ▸ P) b → (Byte x ▸ P) b
+to_byte x c P f l b (front, back, e, h, k) = (front, back, e, byte_only x front l (subst (λ (n : ℕ). SpellsOpcode n front) (sym (some_same f)) h), k)
+
+only : (x c : ℕ) → Some x ≡ Some c → x < 0x100 → (b : List ℕ) → (SpellsOpcode c ▸ Exactly []) b → Byte x b
+only x c f l b (front, back, e, h, k) = e ∙ ap (λ (z : List ℕ). front ++ z) k ∙ append-nil front ∙ byte_only x front l (subst (λ (n : ℕ). SpellsOpcode n front) (sym (some_same f)) h)
+
+pub from_code : (p : Profile) (o : Op) (c : ℕ) → code o ≡ Some c → (b : List ℕ) → (SpellsOpcode c ▸ AfterCode p o) b → SpellsOp p o b
+from_code p (op.Simple i) c f b (x, y, e, h, k) = (x, y, e, subst (λ (n : ℕ). SpellsOpcode n x) (sym (some_same f)) h, k)
+from_code p (op.Block t) c f b h = to_byte 0x02 c _ f (omega arith) b h
+from_code p (op.Loop t) c f b h = to_byte 0x03 c _ f (omega arith) b h
+from_code p (op.If t) c f b h = to_byte 0x04 c _ f (omega arith) b h
+from_code p op.Else c f b h = only 0x05 c f (omega arith) b h
+from_code p op.End c f b h = only 0x0B c f (omega arith) b h
+from_code p (op.BrTable n) c f b h = to_byte 0x0E c _ f (omega arith) b h
+from_code p (op.Label l) c f b h = cc
+
+-- an op that has a code is no label
+pub coded_named : (o : Op) (c : ℕ) → code o ≡ Some c → NoLabel o
+coded_named (op.Label l) c e = absurd (cc)
+coded_named _ c e = tt
 
 -- an op has a byte
-pub op_some : (o : Op) → NoLabel o → SpellsOp o [] → ⊥
-op_some (op.Simple i) n h = no_byte (opcode i).0 (SpellsImmediates i) h
-op_some (op.Block t) n h = no_byte 0x02 _ h
-op_some (op.Loop t) n h = no_byte 0x03 _ h
-op_some (op.If t) n h = no_byte 0x04 _ h
-op_some op.Else n h = not_nil 0x05 [] (sym h)
-op_some op.End n h = not_nil 0x0B [] (sym h)
-op_some (op.BrTable m) n h = no_byte 0x0E _ h
-op_some (op.Label l) n h = absurd n
+pub op_some : (p : Profile) (o : Op) → NoLabel o → SpellsOp p o [] → ⊥
+op_some p o n h = let f = has_first o n in let g = code_first p o f.0 f.1 [] h in code_some f.0 g.0 g.1 g.2 g.3
+  where
+    code_some : (c : ℕ) (x y : List ℕ) → [] ≡ x ++ y → SpellsOpcode c x → ⊥
+    code_some c x y e h = by x (code_forms c x h) e
+      where
+        by : (x : List ℕ) → ((c < 0x100) × (x ≡ c ∷ [])) ⊎ ((0x100 ≤ c) × Prefixed c x) → [] ≡ x ++ y → ⊥
+        by x (inl f) e = not_nil c y (sym (e ∙ ap (λ (z : List ℕ). z ++ y) f.1))
+        by x (inr (l, (u, v, f, g, k))) e = not_nil 0xFC (v ++ y) (sym (e ∙ ap (λ (z : List ℕ). z ++ y) (f ∙ ap (λ (z : List ℕ). z ++ v) g)))

@@ -1,7 +1,7 @@
 -- The possible rest of an op, and how each byte continues it.
-use Rattle.std.proofs.Common.{◌≡◌, IsTrue, ℕ, zero, suc, ◌<◌, ◌^◌, ◌↔◌, Result, Ok, Err, List, [], ◌∷◌, ◌++◌, Option, Some, ℤ, refl, sym, ap, ◌∙◌, subst, arith, nat_eq}
+use Rattle.std.proofs.Common.{◌≡◌, ◌⊎◌, IsTrue, ℕ, zero, suc, nat_lt, ◌+◌, ◌-◌, ◌<◌, ◌≤◌, ◌^◌, ◌↔◌, Result, Ok, Err, List, [], ◌∷◌, ◌++◌, Option, Some, ℤ, refl, sym, ap, ◌∙◌, subst, arith, inl, inr, nat_eq}
 use Rattle.std.specs.Prelude.{None as Nothing}
-use Rattle.std.proofs.lemmas.Bool.{cond_both, eqb-true, eqb-false}
+use Rattle.std.proofs.lemmas.Bool.{cond_both, eqb-true, eqb-false, ltb-true, ltb-false}
 use Rattle.wm_syntax.specs.declared.profile.Profile.{Profile}
 use Rattle.wm_syntax.specs.declared.why.Why.{Why}
 use Rattle.wm_syntax.specs.declared.why.Why.TheVariants as why
@@ -20,31 +20,31 @@ use Rattle.wm_syntax.specs.declared.numbers.Step.{Step}
 use Rattle.wm_syntax.specs.declared.numbers.Step.TheVariants as step
 use Rattle.wm_syntax.specs.inner.Numbers.{Partial, SignedRest}
 use Rattle.wm_syntax.specs.exact.Reading.{fresh, unsigned_push, signed_push}
-use Rattle.wm_syntax.specs.Leb128.{Signed}
-use Rattle.wm_syntax.specs.Spelling.{Form, Byte}
+use Rattle.wm_syntax.specs.Leb128.{Signed, Unsigned}
+use Rattle.wm_syntax.specs.Spelling.{Form, Byte, ◌▸◌}
 use Rattle.wm_syntax.specs.Types.{SpellsU32, SpellsBlockType, block_byte, type_byte}
-use Rattle.wm_syntax.specs.Opcodes.{load, store}
 use Rattle.wm_syntax.specs.exact.ByteTable.{class_feature, class_under}
-use Rattle.wm_syntax.specs.OpClasses.{IsClassOfOp, class_of, first_byte}
-use Rattle.wm_syntax.specs.Profiles.{has, HasBlockType, HasType, IsOpOf}
-use Rattle.wm_syntax.specs.Instructions.{SpellsFloat, SpellsOp, SpellsImmediates}
+use Rattle.wm_syntax.specs.OpClasses.{IsClassOfOp, class_of, code}
+use Rattle.wm_syntax.specs.Profiles.{has, has_prefix, HasBlockType, HasType, IsOpOf}
+use Rattle.wm_syntax.specs.Encodings.{SpellsImmediates, SpellsOp}
 use Rattle.wm_syntax.proofs.Readers.{Goes as NumberGoes, unsigned_law, signed_law, signed_fresh}
-use Rattle.wm_syntax.proofs.SpelledRanges.{begins_with}
+use Rattle.wm_syntax.proofs.CodeBytes.{Prefixed, byte_spells, code_forms, prefixed_spells}
+use Rattle.wm_syntax.proofs.OneInstruction.{apart_op}
 use Rattle.wm_syntax.proofs.OpTable.{has_class}
-use Rattle.wm_syntax.proofs.FirstBytes.{found_under, begins_under}
+use Rattle.wm_syntax.proofs.FirstBytes.{behind_small, begins_under, found_under, prefix_of}
 use Rattle.wm_machine.specs.declared.step.reading.Reading.{Reading}
 use Rattle.wm_machine.specs.declared.step.reading.Reading.TheVariants.{More, Done, Bad}
 use Rattle.wm_machine.specs.declared.step.ops.BlockOp.{BlockOp}
 use Rattle.wm_machine.specs.declared.step.ops.BlockOp.TheVariants as opening
 use Rattle.wm_machine.specs.declared.step.ops.Indexed.{Indexed}
 use Rattle.wm_machine.specs.declared.step.ops.Indexed.TheVariants as indexed
-use Rattle.wm_machine.specs.declared.step.ops.Sizing.{Sizing}
-use Rattle.wm_machine.specs.declared.step.ops.Sizing.TheVariants as sizing
+use Rattle.wm_machine.specs.declared.step.ops.MemoryOp.{MemoryOp}
+use Rattle.wm_machine.specs.declared.step.ops.MemoryOp.TheVariants as memory
 use Rattle.wm_machine.specs.declared.step.ops.LoadOrStore.{LoadOrStore}
 use Rattle.wm_machine.specs.declared.step.ops.LoadOrStore.TheVariants as accesses
 use Rattle.wm_machine.specs.declared.step.ops.InOp.{InOp}
 use Rattle.wm_machine.specs.declared.step.ops.InOp.TheVariants as at
-use Rattle.wm_machine.specs.exact.OpSteps.{block_op, index_op, call_op, memory_op, const_32_op, const_64_op, float_32_op, float_64_op, pushed, float_32_step, float_64_step, access_op, on_answer, immediates, first_step, block_step, closing_step, op_push}
+use Rattle.wm_machine.specs.exact.OpSteps.{block_op, index_op, call_op, memory_op, const_32_op, const_64_op, float_32_op, float_64_op, pushed, float_32_step, float_64_step, access_op, on_answer, immediates, class_step, prefix_step, begin_step, behind_step, padded, code_step, more_padding, padding_step, block_step, first_zero_step, closing_step, long_step, table_step, op_push}
 use Rattle.wm_machine.specs.exact.ValueSteps.{read_type, value_type_of}
 use Rattle.wm_machine.specs.exact.Readings.{Goes}
 use Rattle.wm_machine.specs.Sections.{Those}
@@ -53,7 +53,10 @@ use Rattle.wm_machine.proofs.Numbers.{Left, left_nil, fresh_number}
 use Rattle.wm_machine.proofs.Leaves.{IsReader}
 use Rattle.wm_machine.proofs.ValueBytes.{TypeAnswer, type_answer}
 use Rattle.wm_machine.proofs.FloatBytes.{FloatRest, float_some, float_32_left, float_64_left, left_float_32, left_float_64}
-use Rattle.wm_machine.proofs.OpBytes.{NoLabel, HasImmediates, HasOpType, no_label, of_class, kind_byte, with_byte, has_first, plain_same, plain_whole, after_byte, from_byte, op_some}
+use Rattle.wm_machine.proofs.OpBytes.{AfterCode, NoLabel, HasImmediates, HasOpType, code_first, coded_named, from_code, has_first, no_label, nothing_after, of_class, one_code, op_some, plain_same}
+use Rattle.std.specs.Prelude.{IsFalse}
+use Rattle.wm_syntax.specs.declared.profile.Feature.TheVariants.{LongIndex}
+use Rattle.wm_machine.proofs.TableIndex.{TableRest, Zeros, no_zeros, not_both, one_zero, spelled_zeros, table_begun, table_ended, table_whole, table_zeros, zeros_ended, zeros_nil, zeros_off, zeros_on, zeros_spell}
 
 -- the op that a value makes
 abbrev pub Makes : {T : Type 0} → (T → Op) → (T → Form ℕ) → Op → Form ℕ
@@ -67,16 +70,35 @@ Leads {T} rest then o b = (v : T) × (front back : List ℕ) × (b ≡ front ++ 
 abbrev pub Closed : Op → Op → Form ℕ
 Closed f o b = (o ≡ f) × Byte 0x00 b
 
+-- this op, and the rest of its table index
+abbrev pub Tabled : Profile → Op → ℕ → Op → Form ℕ
+Tabled p f left o b = (o ≡ f) × TableRest p left b
+
+-- the rest of an op of the profile behind its code
+abbrev pub Coded : Profile → ℕ → Op → Form ℕ
+Coded p x o b = (code o ≡ Some x) × IsOpOf p o × AfterCode p o b
+
+-- these bytes, and then the rest of an op behind its code
+abbrev pub Numbered : Profile → Form ℕ → ℕ → Op → Form ℕ
+Numbered p P n o b = (front back : List ℕ) × (b ≡ front ++ back) × P front × Coded p (0x100 + n) o back
+
+-- memory.copy, and two bytes 00
+abbrev pub Copied : Op → Form ℕ
+Copied o b = (o ≡ memory_op memory.Copy) × (Byte 0x00 ▸ Byte 0x00) b
+
 abbrev pub at_offset : LoadOrStore → ℕ → ℕ → Op
 at_offset a align offset = access_op a (record { align = align; offset = offset })
 
 -- with these further bytes the op is spelled, is of the profile and is no label
 abbrev pub op_rest : Profile → InOp → Op → Form ℕ
-op_rest p at.First o b = NoLabel o × IsOpOf p o × SpellsOp o b
+op_rest p at.First o b = NoLabel o × IsOpOf p o × SpellsOp p o b
+op_rest p at.Code o b = (n : ℕ) × Numbered p (SpellsU32 n) n o b
+op_rest p (at.Padding n left) o b = Numbered p (Zeros left) n o b
 op_rest p (at.BlockType i) o b = Makes (block_op i) (Those (HasBlockType p) SpellsBlockType) o b
 op_rest p (at.Index i r) o b = Makes (index_op i) (Left r) o b
-op_rest p (at.CallType r) o b = Leads (Left r) (λ n. Closed (call_op n)) o b
-op_rest p (at.CallTable n) o b = Closed (call_op n) o b
+op_rest p (at.CallType r) o b = Leads (Left r) (λ n. Tabled p (call_op n) 4) o b
+op_rest p (at.CallTable n left) o b = Tabled p (call_op n) left o b
+op_rest p at.FirstZero o b = Copied o b
 op_rest p (at.Memory m) o b = Closed (memory_op m) o b
 op_rest p (at.Const32 r) o b = Makes const_32_op (SignedRest 32 r) o b
 op_rest p (at.Const64 r) o b = Makes const_64_op (SignedRest 64 r) o b
@@ -152,6 +174,45 @@ module _ (p : Profile) where
       (λ z. (λ h. (h.0, tail_same c 0x00 b [] h.1), λ g. (g.0, ap (λ y. c ∷ y) g.1 ∙ ap (λ y. y ∷ []) (eqb-true c 0x00 z))))
       (λ z. (λ h. eqb-false c 0x00 z (head_same c 0x00 b [] h.1), λ e. absurd e))
 
+  -- the first of two bytes 00
+  first_zero_law : (c : ℕ) → Law Copied c (first_zero_step c)
+  first_zero_law c o b = cond_both (nat_eq c 0x00) _ _ (λ (a : Reading InOp Op). Copied o (c ∷ b) ↔ Goes (op_rest p) a o b)
+      (λ z. (
+        (λ h. (h.0, tail_same c 0x00 b h.1.1 (h.1.2 ∙ ap (λ y. y ++ h.1.1) h.1.3) ∙ h.1.4)),
+        (λ g. (g.0, (0 ∷ [], 0 ∷ [], ap (λ y. c ∷ y) g.1 ∙ ap (λ y. y ∷ 0 ∷ []) (eqb-true c 0x00 z), refl, refl))),
+      ))
+      (λ z. (λ h. eqb-false c 0x00 z (head_same c 0x00 b h.1.1 (h.1.2 ∙ ap (λ y. y ++ h.1.1) h.1.3)), λ e. absurd e))
+
+  -- the table index
+  module _ (n c : ℕ) (other : c ≡ 0 → ⊥) (long : IsTrue (has p LongIndex)) (o : Op) (b : List ℕ) where
+    abbrev TableGoes : ℕ → Reading InOp Op → Type 0
+    TableGoes left a = Tabled p (call_op n) left o (c ∷ b) ↔ Goes (op_rest p) a o b
+
+    none_left : TableRest p zero (c ∷ b) → ⊥
+    none_left (inl e) = other (head_same c 0 b [] e)
+    none_left (inr h) = no_zeros c b other h.1
+
+    one_off : (left : ℕ) → TableRest p (suc left) (c ∷ b) → (c ≡ 0x80) × Zeros left b
+    one_off left (inl e) = absurd (other (head_same c 0 b [] e))
+    one_off left (inr h) = zeros_off left c b other h.1
+
+    long_law : (left : ℕ) → TableGoes left (long_step n left c)
+    long_law zero = (λ h. none_left h.1, λ e. absurd e)
+    long_law (suc left) = cond_both (nat_eq c 0x80) _ _ (TableGoes (suc left))
+        (λ z. (λ h. (h.0, inr (long, (one_off left h.1).1)), λ g. (g.0, inr (long, zeros_on left c b (eqb-true c 0x80 z) (table_zeros p left b g.1)))))
+        (λ z. (λ h. eqb-false c 0x80 z (one_off left h.1).0, λ e. absurd e))
+
+  short_only : (left c : ℕ) (b : List ℕ) → (c ≡ 0 → ⊥) → IsFalse (has p LongIndex) → TableRest p left (c ∷ b) → ⊥
+  short_only left c b other k (inl e) = other (head_same c 0 b [] e)
+  short_only left c b other k (inr h) = not_both (has p LongIndex) h.0 k
+
+  table_law : (n left c : ℕ) → Law (Tabled p (call_op n) left) c (table_step p n left c)
+  table_law n left c o b =
+      let P : Reading InOp Op → Type 0 = λ a. Tabled p (call_op n) left o (c ∷ b) ↔ Goes (op_rest p) a o b in
+      cond_both (nat_eq c 0x00) _ _ P
+      (λ z. (λ h. (h.0, table_ended p left c b (eqb-true c 0x00 z) h.1), λ g. (g.0, inl (ap (λ y. c ∷ y) g.1 ∙ ap (λ y. y ∷ []) (eqb-true c 0x00 z)))))
+      (λ z. cond_both (has p LongIndex) _ _ P (λ y. long_law n c (eqb-false c 0x00 z) y o b left) (λ k. (λ h. short_only left c b (eqb-false c 0x00 z) k h.1, λ e. absurd e)))
+
   -- block types
   block_spelled : (t : Option ValType) (c : ℕ) (b : List ℕ) → SpellsBlockType t (c ∷ b) → (c ≡ block_byte t) × (b ≡ [])
   block_spelled t c b h = (head_same c (block_byte t) b [] h, tail_same c (block_byte t) b [] h)
@@ -202,15 +263,15 @@ module _ (p : Profile) where
   float_64_law zero low c byte o b = float_done (2 ^ 56) float_64_op low c o b byte
   float_64_law (suc left) low c byte o b = float_more (2 ^ 56) float_64_op left low c o b byte
 
-  -- what follows the first byte of an op
+  -- what follows the code of an op
   abbrev Starts : Op → List ℕ → Type 0
-  Starts o b = Goes (op_rest p) (first_step (class_of o)) o b
+  Starts o b = Goes (op_rest p) (class_step (class_of o)) o b
 
-  simple_starts : (i : Simple) (b : List ℕ) → SpellsImmediates i b → Starts (op.Simple i) b
+  simple_starts : (i : Simple) (b : List ℕ) → SpellsImmediates p i b → Starts (op.Simple i) b
   simple_starts (s.Br n) b u = (n, refl, (fresh_number n b).0 u)
   simple_starts (s.BrIf n) b u = (n, refl, (fresh_number n b).0 u)
   simple_starts (s.Call n) b u = (n, refl, (fresh_number n b).0 u)
-  simple_starts (s.CallIndirect n) b (front, back, e, u, z) = (n, front, back, e, (fresh_number n front).0 u, (refl, z))
+  simple_starts (s.CallIndirect n) b (front, back, e, u, z) = (n, front, back, e, (fresh_number n front).0 u, (refl, table_begun p back z))
   simple_starts (s.LocalGet n) b u = (n, refl, (fresh_number n b).0 u)
   simple_starts (s.LocalSet n) b u = (n, refl, (fresh_number n b).0 u)
   simple_starts (s.LocalTee n) b u = (n, refl, (fresh_number n b).0 u)
@@ -218,6 +279,8 @@ module _ (p : Profile) where
   simple_starts (s.GlobalSet n) b u = (n, refl, (fresh_number n b).0 u)
   simple_starts s.MemorySize b u = (refl, u)
   simple_starts s.MemoryGrow b u = (refl, u)
+  simple_starts s.MemoryCopy b u = (refl, u)
+  simple_starts s.MemoryFill b u = (refl, u)
   simple_starts (s.I32Const z) b u = (z, refl, signed_left 32 above z b u)
   simple_starts (s.I64Const z) b u = (z, refl, signed_left 64 above_64 z b u)
   simple_starts (s.F32Const n) b u = (n, refl, float_32_left n b u)
@@ -226,26 +289,22 @@ module _ (p : Profile) where
   simple_starts (s.Store o m) b (front, back, e, u, v) = (m.align, front, back, e, (fresh_number m.align front).0 u, (m.offset, refl, (fresh_number m.offset back).0 v))
   simple_starts _ b u = (refl, u)
 
-  starts : (o : Op) (c : ℕ) (b : List ℕ) → NoLabel o → IsOpOf p o → SpellsOp o (c ∷ b) → Starts o b
-  starts (op.Simple i) c b n g h = simple_starts i b (after_byte _ c (SpellsImmediates i) b h)
-  starts (op.Block t) c b n g h = (t, refl, (g, after_byte 0x02 c (SpellsBlockType t) b h))
-  starts (op.Loop t) c b n g h = (t, refl, (g, after_byte 0x03 c (SpellsBlockType t) b h))
-  starts (op.If t) c b n g h = (t, refl, (g, after_byte 0x04 c (SpellsBlockType t) b h))
-  starts op.Else c b n g h = (refl, tail_same c 0x05 b [] h)
-  starts op.End c b n g h = (refl, tail_same c 0x0B b [] h)
-  starts (op.BrTable m) c b n g h = let u = after_byte 0x0E c _ b h in (m, refl, (fresh_number m b).0 u)
-  starts (op.Label l) c b n g h = absurd n
+  starts : (o : Op) (b : List ℕ) → NoLabel o → IsOpOf p o → AfterCode p o b → Starts o b
+  starts (op.Simple i) b n g u = simple_starts i b u
+  starts (op.Block t) b n g u = (t, refl, (g, u))
+  starts (op.Loop t) b n g u = (t, refl, (g, u))
+  starts (op.If t) b n g u = (t, refl, (g, u))
+  starts op.Else b n g u = (refl, u)
+  starts op.End b n g u = (refl, u)
+  starts (op.BrTable m) b n g u = (m, refl, (fresh_number m b).0 u)
+  starts (op.Label l) b n g u = absurd n
 
-  first_to : (c : ℕ) (o : Op) (b : List ℕ) → op_rest p at.First o (c ∷ b) → Goes (op_rest p) (first_step (class_under p c)) o b
-  first_to c o b h =
-      let f : (x : ℕ) × (first_byte o ≡ Some x) = has_first o h.0 in
-      let same : c ≡ f.0 = begins_with o f.0 c b f.1 h.2 in
-      let class : class_under p c ≡ class_of o = found_under p c o (f.1 ∙ ap Some (sym same)) h.1 in
-      subst (λ y. Goes (op_rest p) (first_step y) o b) (sym class) (starts o c b h.0 h.1 h.2)
+  coded_to : (x : ℕ) (o : Op) (b : List ℕ) → Coded p x o b → Goes (op_rest p) (class_step (class_under p x)) o b
+  coded_to x o b h = subst (λ y. Goes (op_rest p) (class_step y) o b) (sym (found_under p x o h.0 h.1)) (starts o b (coded_named o x h.0) h.1 h.2)
 
   -- back from the immediates of an op to all of it
   abbrev IsWhole : Immediates → Op → List ℕ → Type 0
-  IsWhole kind o b = (class_of o ≡ With kind) × HasOpType p o × SpellsOp o (kind_byte kind ∷ b)
+  IsWhole kind o b = (class_of o ≡ With kind) × HasOpType p o × AfterCode p o b
 
   module _ (kind : Immediates) (o : Op) (b : List ℕ) where
     made : {T : Type 0} (f : T → Op) (rest : T → Form ℕ) → ((v : T) → rest v b → IsWhole kind (f v) b) → Makes f rest o b → IsWhole kind o b
@@ -253,7 +312,7 @@ module _ (p : Profile) where
 
     access_made : (a : LoadOrStore) → ((n m : ℕ) → class_of (at_offset a n m) ≡ With kind)
         → ((n m : ℕ) → HasOpType p (at_offset a n m))
-        → ((n m : ℕ) → ((front back : List ℕ) → b ≡ front ++ back → Left fresh n front → Left fresh m back → SpellsOp (at_offset a n m) (kind_byte kind ∷ b)))
+        → ((n m : ℕ) → ((front back : List ℕ) → b ≡ front ++ back → Left fresh n front → Left fresh m back → AfterCode p (at_offset a n m) b))
         → Leads (Left fresh) (λ n. Makes (at_offset a n) (Left fresh)) o b → IsWhole kind o b
     access_made a class type whole m =
         let n : ℕ = m.0 in
@@ -261,63 +320,218 @@ module _ (p : Profile) where
         subst (λ y. IsWhole kind y b) (sym i.1) (class n i.0, type n i.0, whole n i.0 m.1 m.2 m.3 m.4 i.2)
 
   whole : (kind : Immediates) (o : Op) (b : List ℕ) → op_rest p (immediates kind) o b → IsWhole kind o b
-  whole k.Block o b h = made k.Block o b (block_op opening.Block) (Those (HasBlockType p) SpellsBlockType) (λ t u. (refl, u.0, from_byte 0x02 (SpellsBlockType t) b u.1)) h
-  whole k.Loop o b h = made k.Loop o b (block_op opening.Loop) (Those (HasBlockType p) SpellsBlockType) (λ t u. (refl, u.0, from_byte 0x03 (SpellsBlockType t) b u.1)) h
-  whole k.If o b h = made k.If o b (block_op opening.If) (Those (HasBlockType p) SpellsBlockType) (λ t u. (refl, u.0, from_byte 0x04 (SpellsBlockType t) b u.1)) h
-  whole k.Br o b h = made k.Br o b (index_op indexed.Br) (Left fresh) (λ n u. (refl, tt, from_byte 0x0C (SpellsU32 n) b ((fresh_number n b).1 u))) h
-  whole k.BrIf o b h = made k.BrIf o b (index_op indexed.BrIf) (Left fresh) (λ n u. (refl, tt, from_byte 0x0D (SpellsU32 n) b ((fresh_number n b).1 u))) h
-  whole k.BrTable o b h = made k.BrTable o b (index_op indexed.BrTable) (Left fresh) (λ n u. (refl, tt, from_byte 0x0E (SpellsU32 n) b ((fresh_number n b).1 u))) h
-  whole k.Call o b h = made k.Call o b (index_op indexed.Call) (Left fresh) (λ n u. (refl, tt, from_byte 0x10 (SpellsU32 n) b ((fresh_number n b).1 u))) h
+  whole k.Block o b h = made k.Block o b (block_op opening.Block) (Those (HasBlockType p) SpellsBlockType) (λ t u. (refl, u.0, u.1)) h
+  whole k.Loop o b h = made k.Loop o b (block_op opening.Loop) (Those (HasBlockType p) SpellsBlockType) (λ t u. (refl, u.0, u.1)) h
+  whole k.If o b h = made k.If o b (block_op opening.If) (Those (HasBlockType p) SpellsBlockType) (λ t u. (refl, u.0, u.1)) h
+  whole k.Br o b h = made k.Br o b (index_op indexed.Br) (Left fresh) (λ n u. (refl, tt, (fresh_number n b).1 u)) h
+  whole k.BrIf o b h = made k.BrIf o b (index_op indexed.BrIf) (Left fresh) (λ n u. (refl, tt, (fresh_number n b).1 u)) h
+  whole k.BrTable o b h = made k.BrTable o b (index_op indexed.BrTable) (Left fresh) (λ n u. (refl, tt, (fresh_number n b).1 u)) h
+  whole k.Call o b h = made k.Call o b (index_op indexed.Call) (Left fresh) (λ n u. (refl, tt, (fresh_number n b).1 u)) h
   whole k.CallIndirect o b h =
       let n : ℕ = h.0 in
       let c = h.5 in
-      subst (λ y. IsWhole k.CallIndirect y b) (sym c.0) (refl, tt, from_byte 0x11 (SpellsImmediates (s.CallIndirect n)) b (h.1, h.2, h.3, (fresh_number n h.1).1 h.4, c.1))
-  whole k.LocalGet o b h = made k.LocalGet o b (index_op indexed.LocalGet) (Left fresh) (λ n u. (refl, tt, from_byte 0x20 (SpellsU32 n) b ((fresh_number n b).1 u))) h
-  whole k.LocalSet o b h = made k.LocalSet o b (index_op indexed.LocalSet) (Left fresh) (λ n u. (refl, tt, from_byte 0x21 (SpellsU32 n) b ((fresh_number n b).1 u))) h
-  whole k.LocalTee o b h = made k.LocalTee o b (index_op indexed.LocalTee) (Left fresh) (λ n u. (refl, tt, from_byte 0x22 (SpellsU32 n) b ((fresh_number n b).1 u))) h
-  whole k.GlobalGet o b h = made k.GlobalGet o b (index_op indexed.GlobalGet) (Left fresh) (λ n u. (refl, tt, from_byte 0x23 (SpellsU32 n) b ((fresh_number n b).1 u))) h
-  whole k.GlobalSet o b h = made k.GlobalSet o b (index_op indexed.GlobalSet) (Left fresh) (λ n u. (refl, tt, from_byte 0x24 (SpellsU32 n) b ((fresh_number n b).1 u))) h
-  whole k.MemorySize o b h = subst (λ y. IsWhole k.MemorySize y b) (sym h.0) (refl, tt, from_byte 0x3F (Byte 0x00) b h.1)
-  whole k.MemoryGrow o b h = subst (λ y. IsWhole k.MemoryGrow y b) (sym h.0) (refl, tt, from_byte 0x40 (Byte 0x00) b h.1)
-  whole k.I32Const o b h = made k.I32Const o b const_32_op (SignedRest 32 fresh) (λ z u. (refl, tt, from_byte 0x41 (Signed 32 z) b (left_signed 32 above z b u))) h
-  whole k.I64Const o b h = made k.I64Const o b const_64_op (SignedRest 64 fresh) (λ z u. (refl, tt, from_byte 0x42 (Signed 64 z) b (left_signed 64 above_64 z b u))) h
-  whole k.F32Const o b h = made k.F32Const o b float_32_op (FloatRest (2 ^ 24) 3 0) (λ n u. (refl, tt, from_byte 0x43 (SpellsFloat 4 n) b (left_float_32 n b u))) h
-  whole k.F64Const o b h = made k.F64Const o b float_64_op (FloatRest (2 ^ 56) 7 0) (λ n u. (refl, tt, from_byte 0x44 (SpellsFloat 8 n) b (left_float_64 n b u))) h
+      subst (λ y. IsWhole k.CallIndirect y b) (sym c.0) (refl, tt, (h.1, h.2, h.3, (fresh_number n h.1).1 h.4, table_whole p h.2 c.1))
+  whole k.LocalGet o b h = made k.LocalGet o b (index_op indexed.LocalGet) (Left fresh) (λ n u. (refl, tt, (fresh_number n b).1 u)) h
+  whole k.LocalSet o b h = made k.LocalSet o b (index_op indexed.LocalSet) (Left fresh) (λ n u. (refl, tt, (fresh_number n b).1 u)) h
+  whole k.LocalTee o b h = made k.LocalTee o b (index_op indexed.LocalTee) (Left fresh) (λ n u. (refl, tt, (fresh_number n b).1 u)) h
+  whole k.GlobalGet o b h = made k.GlobalGet o b (index_op indexed.GlobalGet) (Left fresh) (λ n u. (refl, tt, (fresh_number n b).1 u)) h
+  whole k.GlobalSet o b h = made k.GlobalSet o b (index_op indexed.GlobalSet) (Left fresh) (λ n u. (refl, tt, (fresh_number n b).1 u)) h
+  whole k.MemorySize o b h = subst (λ y. IsWhole k.MemorySize y b) (sym h.0) (refl, tt, h.1)
+  whole k.MemoryGrow o b h = subst (λ y. IsWhole k.MemoryGrow y b) (sym h.0) (refl, tt, h.1)
+  whole k.MemoryCopy o b h = subst (λ y. IsWhole k.MemoryCopy y b) (sym h.0) (refl, tt, h.1)
+  whole k.MemoryFill o b h = subst (λ y. IsWhole k.MemoryFill y b) (sym h.0) (refl, tt, h.1)
+  whole k.I32Const o b h = made k.I32Const o b const_32_op (SignedRest 32 fresh) (λ z u. (refl, tt, left_signed 32 above z b u)) h
+  whole k.I64Const o b h = made k.I64Const o b const_64_op (SignedRest 64 fresh) (λ z u. (refl, tt, left_signed 64 above_64 z b u)) h
+  whole k.F32Const o b h = made k.F32Const o b float_32_op (FloatRest (2 ^ 24) 3 0) (λ n u. (refl, tt, left_float_32 n b u)) h
+  whole k.F64Const o b h = made k.F64Const o b float_64_op (FloatRest (2 ^ 56) 7 0) (λ n u. (refl, tt, left_float_64 n b u)) h
   whole (k.Load i) o b h = access_made (k.Load i) o b (accesses.Load i) (λ n m. refl) (λ n m. tt)
-      (λ n m front back e u v. from_byte (load i).byte (SpellsImmediates (s.Load i (record { align = n; offset = m }))) b (front, back, e, (fresh_number n front).1 u, (fresh_number m back).1 v)) h
+      (λ n m front back e u v. (front, back, e, (fresh_number n front).1 u, (fresh_number m back).1 v)) h
   whole (k.Store i) o b h = access_made (k.Store i) o b (accesses.Store i) (λ n m. refl) (λ n m. tt)
-      (λ n m front back e u v. from_byte (store i).byte (SpellsImmediates (s.Store i (record { align = n; offset = m }))) b (front, back, e, (fresh_number n front).1 u, (fresh_number m back).1 v)) h
+      (λ n m front back e u v. (front, back, e, (fresh_number n front).1 u, (fresh_number m back).1 v)) h
 
-  first_from : (c : ℕ) (class : OpClass) → class_under p c ≡ class → (o : Op) (b : List ℕ) → Goes (op_rest p) (first_step class) o b → op_rest p at.First o (c ∷ b)
-  first_from c (Plain v) e o b g =
-      let i : (x : Op) × (first_byte x ≡ Some c) × IsOpOf p x × (class_of x ≡ class_under p c) = begins_under p c (subst IsClassOfOp (sym e) tt) in
+  pub coded_from : (x : ℕ) (class : OpClass) → class_under p x ≡ class → (o : Op) (b : List ℕ) → Goes (op_rest p) (class_step class) o b → Coded p x o b
+  coded_from x (Plain v) e o b g =
+      let i : (q : Op) × (code q ≡ Some x) × IsOpOf p q × (class_of q ≡ class_under p x) = begins_under p x (subst IsClassOfOp (sym e) tt) in
       let same : i.0 ≡ o = plain_same i.0 v (i.3 ∙ e) ∙ sym g.0 in
       let class : class_of o ≡ Plain o = ap class_of (sym same) ∙ (i.3 ∙ (e ∙ ap Plain (sym g.0))) in
-      let f : first_byte o ≡ Some c = ap first_byte (sym same) ∙ i.1 in
-      let w : NoLabel o × SpellsOp o (c ∷ []) = plain_whole o c class f in
-      (w.0, subst (IsOpOf p) same i.2, subst (λ y. SpellsOp o (c ∷ y)) (sym g.1) w.1)
-  first_from c (With kind) e o b g =
-      let i : (x : Op) × (first_byte x ≡ Some c) × IsOpOf p x × (class_of x ≡ class_under p c) = begins_under p c (subst IsClassOfOp (sym e) tt) in
-      let byte : c ≡ kind_byte kind = with_byte i.0 kind c (i.3 ∙ e) i.1 in
+      (ap code (sym same) ∙ i.1, subst (IsOpOf p) same i.2, subst (AfterCode p o) (sym g.1) (nothing_after p o class))
+  coded_from x (With kind) e o b g =
+      let i : (q : Op) × (code q ≡ Some x) × IsOpOf p q × (class_of q ≡ class_under p x) = begins_under p x (subst IsClassOfOp (sym e) tt) in
       let w : IsWhole kind o b = whole kind o b g in
       let same : class_of i.0 ≡ class_of o = (i.3 ∙ e) ∙ sym w.0 in
       let owns : IsTrue (has p (class_feature (class_of o))) = subst (λ y. IsTrue (has p (class_feature y))) same (has_class p i.0 i.2) in
-      (no_label o (kind, w.0), of_class p o owns w.1, subst (λ y. SpellsOp o (y ∷ b)) (sym byte) w.2)
-  first_from c Float e o b g = absurd g
-  first_from c None e o b g = absurd g
+      (one_code o i.0 kind w.0 (i.3 ∙ e) ∙ i.1, of_class p o owns w.1, w.2)
+  coded_from x Float e o b g = absurd g
+  coded_from x None e o b g = absurd g
+
+  coded_law : (x : ℕ) (o : Op) (b : List ℕ) → Coded p x o b ↔ Goes (op_rest p) (class_step (class_under p x)) o b
+  coded_law x o b = (coded_to x o b, coded_from x (class_under p x) refl o b)
+
+  -- the first byte: a code, or the prefix
+  pub first_parts : (c : ℕ) (o : Op) (b : List ℕ) → op_rest p at.First o (c ∷ b) → ((c ≡ 0xFC → ⊥) × Coded p c o b) ⊎ ((c ≡ 0xFC) × IsTrue (has_prefix p) × op_rest p at.Code o b)
+  first_parts c o b h =
+      let f = has_first o h.0 in
+      let s = code_first p o f.0 f.1 (c ∷ b) h.2 in
+      parts f.0 f.1 s.0 s.1 s.2 (code_forms f.0 s.0 s.3) s.4
+    where
+      parts : (x : ℕ) → code o ≡ Some x → (front back : List ℕ) → c ∷ b ≡ front ++ back → ((x < 0x100) × (front ≡ x ∷ [])) ⊎ ((0x100 ≤ x) × Prefixed x front) → AfterCode p o back
+          → ((c ≡ 0xFC → ⊥) × Coded p c o b) ⊎ ((c ≡ 0xFC) × IsTrue (has_prefix p) × op_rest p at.Code o b)
+      parts x f front back e (inl (l, g)) u =
+          let whole : c ∷ b ≡ x ∷ back = e ∙ ap (λ y. y ++ back) g in
+          let same : c ≡ x = head_same c x b back whole in
+          inl ((λ z. apart_op o x f (sym same ∙ z)), (f ∙ ap Some (sym same), h.1, subst (AfterCode p o) (sym (tail_same c x b back whole)) u))
+      parts x f front back e (inr (l, (y, z, g, k, n))) u =
+          let whole : c ∷ b ≡ 0xFC ∷ (z ++ back) = e ∙ ap (λ w. w ++ back) (g ∙ ap (λ w. w ++ z) k) in
+          let same : x ≡ 0x100 + (x - 0x100) = omega (arith, l) in
+          inr (head_same c 0xFC b (z ++ back) whole, prefix_of p o x f l h.1, (x - 0x100, (z, back, tail_same c 0xFC b (z ++ back) whole, n, (f ∙ ap Some same, h.1, u))))
+
+  pub behind_first : (c : ℕ) (o : Op) (b : List ℕ) → c ≡ 0xFC → op_rest p at.Code o b → op_rest p at.First o (c ∷ b)
+  behind_first c o b z (n, (front, back, e, u, (f, g, k))) =
+      let less : (0x100 + n) - 0x100 ≡ n = omega arith in (
+        coded_named o (0x100 + n) f,
+        g,
+        from_code p o (0x100 + n) f (c ∷ b) (
+          0xFC ∷ front,
+          back,
+          ap (λ y. y ∷ b) z ∙ ap (λ y. 0xFC ∷ y) e,
+          prefixed_spells (0x100 + n) (0xFC ∷ front) (omega arith) (0xFC ∷ [], front, refl, refl, subst (λ m. SpellsU32 m front) (sym less) u),
+          k,
+        ),
+      )
+
+  first_code : (c : ℕ) (o : Op) (b : List ℕ) → c < 2 ^ 8 → Coded p c o b → op_rest p at.First o (c ∷ b)
+  first_code c o b byte (f, g, k) = (coded_named o c f, g, from_code p o c f (c ∷ b) (c ∷ [], b, refl, byte_spells c (c ∷ []) (omega (arith, byte)) refl, k))
+
+  module _ (c : ℕ) (byte : c < 2 ^ 8) (o : Op) (b : List ℕ) where
+    abbrev Firsts : Reading InOp Op → Type 0
+    Firsts a = op_rest p at.First o (c ∷ b) ↔ Goes (op_rest p) a o b
+
+    prefix_law : c ≡ 0xFC → Firsts (prefix_step p)
+    prefix_law z =
+        cond_both (has_prefix p) _ _ Firsts
+        (λ y. ((λ h. elim (first_parts c o b h) [ inl f ↦ absurd (f.0 z) | inr f ↦ f.2 ]), behind_first c o b z))
+        (λ y. ((λ h. elim (first_parts c o b h) [ inl f ↦ f.0 z | inr f ↦ not_both (has_prefix p) f.1 y ]), λ e. absurd e))
+
+    first_law : Firsts (begin_step p c)
+    first_law =
+        cond_both (nat_eq c 0xFC) _ _ Firsts
+        (λ z. prefix_law (eqb-true c 0xFC z))
+        (λ z. (
+          (λ h. elim (first_parts c o b h) [ inl f ↦ coded_to c o b f.1 | inr f ↦ absurd (eqb-false c 0xFC z f.0) ]),
+          (λ g. first_code c o b byte (coded_from c (class_under p c) refl o b g)),
+        ))
+
+  -- the number behind the prefix
+  number_parts : (n c : ℕ) (b front back : List ℕ) → c ∷ b ≡ front ++ back → SpellsU32 n front → n < 12
+      → ((c < 0x80) × (n ≡ c) × (b ≡ back)) ⊎ ((0x80 ≤ c) × (n ≡ c - 0x80) × (f : List ℕ) × (b ≡ f ++ back) × Zeros 3 f)
+  number_parts n c b [] back e u few = absurd u
+  number_parts n c b (d ∷ f) back e (inl (small, fits, is, ends)) few =
+      let same : c ≡ d = head_same c d b (f ++ back) e in
+      inl (omega (arith, small, same), is ∙ sym same, tail_same c d b (f ++ back) e ∙ ap (λ y. y ++ back) ends)
+  number_parts n c b (d ∷ f) back e (inr (large, byte, some, high, is, rest)) few =
+      let same : c ≡ d = head_same c d b (f ++ back) e in
+      let none : high ≡ 0 = omega (arith, is, few) in
+      inr (omega (arith, large, same), omega (arith, is, none, same), f, tail_same c d b (f ++ back) e, spelled_zeros 3 25 (omega arith) f (subst (λ m. Unsigned 25 m f) none rest))
+
+  one_number : (c : ℕ) → c < 0x80 → SpellsU32 c (c ∷ [])
+  one_number c l = inl (omega (arith, l), omega (arith, l), refl, refl)
+
+  long_number : (c : ℕ) (f : List ℕ) → 0x80 ≤ c → c < 2 ^ 8 → Zeros 3 f → SpellsU32 (c - 0x80) (c ∷ f)
+  long_number c f l byte z = inr (omega (arith, l), byte, omega arith, 0, omega arith, zeros_spell 3 25 (omega arith) f z)
 
   same_left : {A : Type 0} → A ↔ A
   same_left = (λ h. h, λ h. h)
 
+  -- with its first byte known
+  padded_law : (n : ℕ) (q : Reading InOp Op) → q ≡ behind_step p n → (o : Op) (b : List ℕ) → Numbered p (Zeros 3) n o b ↔ Goes (op_rest p) (padded q n) o b
+  padded_law n (Bad w) e o b = ((λ h. subst (λ a. Goes (op_rest p) a o h.1) (sym e) (coded_to (0x100 + n) o h.1 h.4)), λ g. absurd g)
+  padded_law n (More r) e o b = same_left
+  padded_law n (Done v) e o b = same_left
+
+  pub code_law : (c : ℕ) → c < 2 ^ 8 → Law (λ o b. (n : ℕ) × Numbered p (SpellsU32 n) n o b) c (code_step p c)
+  code_law c byte o b =
+      let Whole : Type 0 = (n : ℕ) × Numbered p (SpellsU32 n) n o (c ∷ b) in
+      cond_both (nat_lt c 0x80) _ _ (λ (a : Reading InOp Op). Whole ↔ Goes (op_rest p) a o b)
+      (λ l. (
+        (λ h. short (ltb-true c 0x80 l) h.0 h.1.0 h.1.1 h.1.2 h.1.3 h.1.4),
+        (λ g. (c, (c ∷ [], b, refl, one_number c (ltb-true c 0x80 l), coded_from (0x100 + c) (class_under p (0x100 + c)) refl o b g))),
+      ))
+      (λ l. (
+        (λ h. (padded_law (c - 0x80) (behind_step p (c - 0x80)) refl o b).0 (long (ltb-false c 0x80 l) h.0 h.1.0 h.1.1 h.1.2 h.1.3 h.1.4)),
+        (λ g.
+            let h = (padded_law (c - 0x80) (behind_step p (c - 0x80)) refl o b).1 g in
+            (c - 0x80, (c ∷ h.0, h.1, ap (λ y. c ∷ y) h.2, long_number c h.0 (ltb-false c 0x80 l) byte h.3, h.4))),
+      ))
+    where
+      short : c < 0x80 → (n : ℕ) (front back : List ℕ) → c ∷ b ≡ front ++ back → SpellsU32 n front → Coded p (0x100 + n) o back → Goes (op_rest p) (behind_step p c) o b
+      short l n front back e u k = elim (number_parts n c b front back e u (behind_small p n o k.0 k.1)) [
+        | inl f ↦ coded_to (0x100 + c) o b (subst (λ y. Coded p (0x100 + c) o y) (sym f.2) (subst (λ m. Coded p (0x100 + m) o back) f.1 k))
+        | inr f ↦ absurd (omega (arith, l, f.0))
+      ]
+
+      long : 0x80 ≤ c → (n : ℕ) (front back : List ℕ) → c ∷ b ≡ front ++ back → SpellsU32 n front → Coded p (0x100 + n) o back → Numbered p (Zeros 3) (c - 0x80) o b
+      long l n front back e u k = elim (number_parts n c b front back e u (behind_small p n o k.0 k.1)) [
+        | inl f ↦ absurd (omega (arith, l, f.0))
+        | inr f ↦ (f.2, back, f.3, f.4, subst (λ m. Coded p (0x100 + m) o back) f.1 k)
+      ]
+
+  -- a first byte that goes on, of the number of an op
+  padded_class : (n : ℕ) (class : OpClass) → IsClassOfOp class → padded (class_step class) n ≡ More (at.Padding n 3)
+  padded_class n (Plain o) h = refl
+  padded_class n (With kind) h = refl
+  padded_class n Float h = absurd h
+  padded_class n None h = absurd h
+
+  pub long_first : (n : ℕ) → IsClassOfOp (class_under p (0x100 + n)) → code_step p (0x80 + n) ≡ More (at.Padding n 3)
+  long_first n h =
+      let less : (0x80 + n) - 0x80 ≡ n = omega arith in
+      cond_both (nat_lt (0x80 + n) 0x80) _ _ (λ (a : Reading InOp Op). a ≡ More (at.Padding n 3))
+      (λ l. absurd (omega (arith, ltb-true (0x80 + n) 0x80 l)))
+      (λ l. ap (λ m. padded (behind_step p m) m) less ∙ padded_class n (class_under p (0x100 + n)) h)
+
+  module _ (n c : ℕ) (o : Op) (b : List ℕ) where
+    abbrev Pads : ℕ → Reading InOp Op → Type 0
+    Pads left a = Numbered p (Zeros left) n o (c ∷ b) ↔ Goes (op_rest p) a o b
+
+    -- one byte less of it
+    zeros_first : (left : ℕ) (front back : List ℕ) → c ∷ b ≡ front ++ back → Zeros left front → (f : List ℕ) × (front ≡ c ∷ f) × (b ≡ f ++ back) × Zeros left (c ∷ f)
+    zeros_first left [] back e z = absurd (zeros_nil left z)
+    zeros_first left (d ∷ f) back e z =
+        let same : c ≡ d = head_same c d b (f ++ back) e in
+        (f, ap (λ y. y ∷ f) (sym same), tail_same c d b (f ++ back) e, subst (λ y. Zeros left (y ∷ f)) (sym same) z)
+
+    padding_more : (c ≡ 0 → ⊥) → (left : ℕ) → Pads left (more_padding n left c)
+    padding_more other zero = ((λ h. let g = zeros_first zero h.0 h.1 h.2 h.3 in no_zeros c g.0 other g.3), λ e. absurd e)
+    padding_more other (suc left) = cond_both (nat_eq c 0x80) _ _ (Pads (suc left))
+        (λ z. (
+          (λ h. let g = zeros_first (suc left) h.0 h.1 h.2 h.3 in (g.0, h.1, g.2, (zeros_off left c g.0 other g.3).1, h.4)),
+          (λ g. (c ∷ g.0, g.1, ap (λ y. c ∷ y) g.2, zeros_on left c g.0 (eqb-true c 0x80 z) g.3, g.4)),
+        ))
+        (λ z. ((λ h. let g = zeros_first (suc left) h.0 h.1 h.2 h.3 in eqb-false c 0x80 z (zeros_off left c g.0 other g.3).0), λ e. absurd e))
+
+    pub padding_law : (left : ℕ) → Pads left (padding_step p n left c)
+    padding_law left = cond_both (nat_eq c 0x00) _ _ (Pads left)
+        (λ z. (
+          (λ h.
+              let g = zeros_first left h.0 h.1 h.2 h.3 in
+              let ended : g.0 ≡ [] = zeros_ended left c g.0 (eqb-true c 0x00 z) g.3 in
+              coded_to (0x100 + n) o b (subst (Coded p (0x100 + n) o) (sym (g.2 ∙ ap (λ y. y ++ h.1) ended)) h.4)),
+          (λ g. (c ∷ [], b, refl, one_zero left (c ∷ []) (ap (λ y. y ∷ []) (eqb-true c 0x00 z)), coded_from (0x100 + n) (class_under p (0x100 + n)) refl o b g)),
+        ))
+        (λ z. padding_more (eqb-false c 0x00 z) left)
+
   -- each byte goes on with what may still come
   op_law : (r : InOp) (c : ℕ) → c < 2 ^ 8 → (o : Op) (b : List ℕ) → op_rest p r o (c ∷ b) ↔ Goes (op_rest p) (op_push p r c) o b
-  op_law at.First c byte o b = (first_to c o b, first_from c (class_under p c) refl o b)
+  op_law at.First c byte o b = first_law c byte o b
+  op_law at.Code c byte o b = code_law c byte o b
+  op_law (at.Padding n left) c byte o b = padding_law n c o b left
   op_law (at.BlockType i) c byte o b = block_law i c o b
   op_law (at.Index i r) c byte o b =
       makes_law Left r c (index_op i) (λ t. at.Index i t) (λ t o b. same_left) (unsigned_push 32 r c) (λ n b. unsigned_law 32 r n c b byte) o b
   op_law (at.CallType r) c byte o b =
-      leads_law Left r c (λ n. Closed (call_op n)) (λ t. at.CallType t) (λ n. at.CallTable n) left_nil (λ t o b. same_left) (λ n o b. same_left) (unsigned_push 32 r c) (λ n b. unsigned_law 32 r n c b byte) o b
-  op_law (at.CallTable n) c byte o b = closed_law (call_op n) c o b
+      leads_law Left r c (λ n. Tabled p (call_op n) 4) (λ t. at.CallType t) (λ n. at.CallTable n 4) left_nil (λ t o b. same_left) (λ n o b. same_left) (unsigned_push 32 r c) (λ n b. unsigned_law 32 r n c b byte) o b
+  op_law (at.CallTable n left) c byte o b = table_law n left c o b
+  op_law at.FirstZero c byte o b = first_zero_law c o b
   op_law (at.Memory m) c byte o b = closed_law (memory_op m) c o b
   op_law (at.Const32 r) c byte o b =
       makes_law (SignedRest 32) r c const_32_op (λ t. at.Const32 t) (λ t o b. same_left) (signed_push 32 r c) (λ z b. signed_law 32 r z c b byte) o b
@@ -339,12 +553,19 @@ module _ (p : Profile) where
   lead_some rest some v [] back e u = some v u
   lead_some rest some v (d ∷ f) back e u = not_nil d (f ++ back) (sym e)
 
+  lead_front : (P : Form ℕ) → (P [] → ⊥) → (front back : List ℕ) → [] ≡ front ++ back → P front → ⊥
+  lead_front P some [] back e u = some u
+  lead_front P some (d ∷ f) back e u = not_nil d (f ++ back) (sym e)
+
   rest_some : (r : InOp) (o : Op) → op_rest p r o [] → ⊥
-  rest_some at.First o h = op_some o h.0 h.2
+  rest_some at.First o h = op_some p o h.0 h.2
+  rest_some at.Code o h = lead_front (SpellsU32 h.0) (λ e. e) h.1.0 h.1.1 h.1.2 h.1.3
+  rest_some (at.Padding n left) o h = lead_front (Zeros left) (zeros_nil left) h.0 h.1 h.2 h.3
   rest_some (at.BlockType i) o h = block_some h.0 h.2.1
   rest_some (at.Index i r) o h = left_nil r h.0 h.2
   rest_some (at.CallType r) o h = lead_some (Left r) (left_nil r) h.0 h.1 h.2 h.3 h.4
-  rest_some (at.CallTable n) o h = not_nil 0x00 [] (sym h.1)
+  rest_some (at.CallTable n left) o h = zeros_nil left (table_zeros p left [] h.1)
+  rest_some at.FirstZero o h = not_nil 0x00 h.1.1 (sym (h.1.2 ∙ ap (λ y. y ++ h.1.1) h.1.3))
   rest_some (at.Memory m) o h = not_nil 0x00 [] (sym h.1)
   rest_some (at.Const32 r) o h = h.2.3
   rest_some (at.Const64 r) o h = h.2.3
@@ -373,9 +594,11 @@ module _ (p : Profile) where
   index_has indexed.GlobalGet n = (k.GlobalGet, refl)
   index_has indexed.GlobalSet n = (k.GlobalSet, refl)
 
-  memory_has : (m : Sizing) → HasImmediates (memory_op m)
-  memory_has sizing.Size = (k.MemorySize, refl)
-  memory_has sizing.Grow = (k.MemoryGrow, refl)
+  memory_has : (m : MemoryOp) → HasImmediates (memory_op m)
+  memory_has memory.Size = (k.MemorySize, refl)
+  memory_has memory.Grow = (k.MemoryGrow, refl)
+  memory_has memory.Copy = (k.MemoryCopy, refl)
+  memory_has memory.Fill = (k.MemoryFill, refl)
 
   access_has : (a : LoadOrStore) (m : MemArg) → HasImmediates (access_op a m)
   access_has (accesses.Load i) m = (k.Load i, refl)
@@ -387,10 +610,13 @@ module _ (p : Profile) where
   -- what is read is no label
   pub rest_named : (r : InOp) (o : Op) (b : List ℕ) → op_rest p r o b → NoLabel o
   rest_named at.First o b h = h.0
+  rest_named at.Code o b h = coded_named o (0x100 + h.0) h.1.4.0
+  rest_named (at.Padding n left) o b h = coded_named o (0x100 + n) h.4.0
   rest_named (at.BlockType i) o b h = named o (block_op i h.0) h.1 (block_has i h.0)
   rest_named (at.Index i r) o b h = named o (index_op i h.0) h.1 (index_has i h.0)
   rest_named (at.CallType r) o b h = let c = h.5 in named o (call_op h.0) c.0 (k.CallIndirect, refl)
-  rest_named (at.CallTable n) o b h = named o (call_op n) h.0 (k.CallIndirect, refl)
+  rest_named (at.CallTable n left) o b h = named o (call_op n) h.0 (k.CallIndirect, refl)
+  rest_named at.FirstZero o b h = named o (memory_op memory.Copy) h.0 (memory_has memory.Copy)
   rest_named (at.Memory m) o b h = named o (memory_op m) h.0 (memory_has m)
   rest_named (at.Const32 r) o b h = named o (const_32_op h.0) h.1 (k.I32Const, refl)
   rest_named (at.Const64 r) o b h = named o (const_64_op h.0) h.1 (k.I64Const, refl)

@@ -1,15 +1,17 @@
 -- The possible states of the reader of an op: something may still come in each. Also, where it gives the name Float.
-use Rattle.std.proofs.Common.{◌≡◌, ℕ, zero, suc, Some, Result, Ok, Err, ap, ◌+◌, ◌-◌, ◌*◌, ◌<◌, ◌^◌, inl, inr, List, [], ◌∷◌, ℤ, pos, refl, subst, arith, nat_eq, nat_lt, nat_le, pow_pos}
+use Rattle.std.proofs.Common.{◌≡◌, IsTrue, ℕ, zero, suc, Some, sym, Result, Ok, Err, ap, ◌+◌, ◌-◌, ◌*◌, ◌<◌, ◌≤◌, ◌^◌, inl, inr, List, [], ◌∷◌, ℤ, pos, refl, subst, arith, nat_eq, nat_lt, nat_le, pow_pos}
 use Rattle.std.specs.Prelude.{None as Nothing}
 use Rattle.std.proofs.lemmas.Bool.{cond_both, eqb-true, ltb-true}
 use Rattle.wm_syntax.specs.declared.profile.Profile.{Profile}
-use Rattle.wm_syntax.specs.Profiles.{has, type_feature}
+use Rattle.wm_syntax.specs.Profiles.{has, has_prefix, type_feature}
 use Rattle.wm_syntax.specs.declared.types.ValType.{ValType}
 use Rattle.wm_syntax.specs.declared.types.ValType.TheVariants.{I32, I64, F32, F64}
 use Rattle.wm_syntax.specs.declared.why.Why.{Why}
 use Rattle.wm_syntax.specs.declared.why.Why.TheVariants as why
 use Rattle.wm_syntax.specs.declared.instructions.Op.{Op}
 use Rattle.wm_syntax.specs.declared.instructions.Op.TheVariants as op
+use Rattle.wm_syntax.specs.declared.instructions.Simple.TheVariants as simple
+use Rattle.wm_machine.proofs.TableIndex.{one_zero}
 use Rattle.wm_syntax.specs.declared.instructions.op_class.OpClass.{OpClass}
 use Rattle.wm_syntax.specs.declared.instructions.op_class.OpClass.TheVariants.{Plain, With, Float, None}
 use Rattle.wm_syntax.specs.declared.instructions.op_class.Immediates.{Immediates}
@@ -20,19 +22,22 @@ use Rattle.wm_syntax.specs.inner.Numbers.{Partial, SignedRest}
 use Rattle.wm_syntax.specs.exact.Reading.{fresh, last_signed, unsigned_push, signed_push}
 use Rattle.wm_syntax.specs.exact.ByteTable.{class_under}
 use Rattle.wm_syntax.proofs.Room.{room_more}
-use Rattle.wm_syntax.proofs.FirstBytes.{float_under}
+use Rattle.wm_syntax.proofs.FirstBytes.{behind_no_float, float_under, found_under, some_behind}
+use Rattle.wm_syntax.specs.OpClasses.{IsClassOfOp, class_of}
 use Rattle.wm_machine.specs.declared.step.reading.Reading.{Reading}
 use Rattle.wm_machine.specs.declared.step.reading.Reading.TheVariants.{More, Done, Bad}
 use Rattle.wm_machine.specs.declared.step.ops.BlockOp.{BlockOp}
+use Rattle.wm_machine.specs.declared.step.ops.MemoryOp.TheVariants as memory
 use Rattle.wm_machine.specs.declared.step.ops.InOp.{InOp}
 use Rattle.wm_machine.specs.declared.step.ops.InOp.TheVariants as at
-use Rattle.wm_machine.specs.exact.OpSteps.{block_op, index_op, call_op, memory_op, const_32_op, const_64_op, float_32_op, float_64_op, pushed_32, pushed_64, on_answer, immediates, first_step, block_step, closing_step, op_push}
+use Rattle.wm_machine.specs.exact.OpSteps.{block_op, index_op, call_op, memory_op, const_32_op, const_64_op, float_32_op, float_64_op, pushed_32, pushed_64, on_answer, immediates, class_step, prefix_step, begin_step, padded, code_step, more_padding, padding_step, block_step, first_zero_step, closing_step, long_step, table_step, op_push}
 use Rattle.wm_machine.specs.exact.ValueSteps.{read_type, type_under, value_type_of}
 use Rattle.wm_machine.proofs.Numbers.{Left}
 use Rattle.wm_machine.proofs.FloatBytes.{float_comes}
-use Rattle.wm_machine.proofs.OpRest.{at_offset, op_rest}
+use Rattle.wm_machine.proofs.OpRest.{Coded, at_offset, coded_from, op_rest}
 use Rattle.wm_machine.proofs.ValueBytes.{type_given}
 use Rattle.wm_machine.specs.Decoding.{IsFloatByte}
+use Rattle.wm_syntax.specs.declared.profile.Feature.TheVariants.{LongIndex}
 
 -- the number so far can still be ended, and is as small as its bytes say
 abbrev pub HasRoom : ℕ → Partial → Type 0
@@ -73,70 +78,109 @@ signed_room bits r c h byte =
     (λ _. tt)
 
 -- the states in which something may still come
-abbrev pub SoundOp : InOp → Type 0
-SoundOp (at.Index i r) = HasRoom 32 r
-SoundOp (at.CallType r) = HasRoom 32 r
-SoundOp (at.Const32 r) = HasRoom 32 r
-SoundOp (at.Const64 r) = HasRoom 64 r
-SoundOp (at.Align a r) = HasRoom 32 r
-SoundOp (at.Offset a n r) = HasRoom 32 r
-SoundOp _ = Unit {0}
+abbrev pub SoundOp : Profile → InOp → Type 0
+SoundOp p at.Code = IsTrue (has_prefix p)
+SoundOp p (at.Padding n left) = IsClassOfOp (class_under p (0x100 + n)) × (left ≤ 3)
+SoundOp p (at.Index i r) = HasRoom 32 r
+SoundOp p (at.CallType r) = HasRoom 32 r
+SoundOp p (at.Const32 r) = HasRoom 32 r
+SoundOp p (at.Const64 r) = HasRoom 64 r
+SoundOp p (at.Align a r) = HasRoom 32 r
+SoundOp p (at.Offset a n r) = HasRoom 32 r
+SoundOp p _ = Unit {0}
 
-abbrev pub FineOp : Reading InOp Op → Type 0
-FineOp (More r) = SoundOp r
-FineOp (Done o) = Unit {0}
-FineOp (Bad w) = Unit {0}
+abbrev pub FineOp : Profile → Reading InOp Op → Type 0
+FineOp p (More r) = SoundOp p r
+FineOp p (Done o) = Unit {0}
+FineOp p (Bad w) = Unit {0}
 
 pub fresh_32 : HasRoom 32 fresh
 fresh_32 = fresh_room 32 (omega arith)
 
-immediates_sound : (kind : Immediates) → SoundOp (immediates kind)
-immediates_sound k.Block = tt
-immediates_sound k.Loop = tt
-immediates_sound k.If = tt
-immediates_sound k.MemorySize = tt
-immediates_sound k.MemoryGrow = tt
-immediates_sound k.I64Const = fresh_room 64 (omega arith)
-immediates_sound k.F32Const = tt
-immediates_sound k.F64Const = tt
-immediates_sound _ = fresh_32
+immediates_sound : (p : Profile) (kind : Immediates) → SoundOp p (immediates kind)
+immediates_sound p k.Block = tt
+immediates_sound p k.Loop = tt
+immediates_sound p k.If = tt
+immediates_sound p k.MemorySize = tt
+immediates_sound p k.MemoryGrow = tt
+immediates_sound p k.MemoryCopy = tt
+immediates_sound p k.MemoryFill = tt
+immediates_sound p k.I64Const = fresh_room 64 (omega arith)
+immediates_sound p k.F32Const = tt
+immediates_sound p k.F64Const = tt
+immediates_sound p _ = fresh_32
 
-first_fine : (class : OpClass) → FineOp (first_step class)
-first_fine (Plain o) = tt
-first_fine (With kind) = immediates_sound kind
-first_fine Float = tt
-first_fine None = tt
+class_fine : (p : Profile) (class : OpClass) → FineOp p (class_step class)
+class_fine p (Plain o) = tt
+class_fine p (With kind) = immediates_sound p kind
+class_fine p Float = tt
+class_fine p None = tt
 
-type_fine : (q : Result ValType Why) (f : ValType → Reading InOp Op) → ((t : ValType) → FineOp (f t)) → FineOp (read_type q f)
-type_fine (Ok t) f h = h t
-type_fine (Err w) f h = tt
+prefix_fine : (p : Profile) → FineOp p (prefix_step p)
+prefix_fine p = cond_both (has_prefix p) _ _ (λ (a : Reading InOp Op). FineOp p a) (λ y. y) (λ _. tt)
 
-block_fine : (p : Profile) (i : BlockOp) (c : ℕ) → FineOp (block_step p i c)
-block_fine p i c = cond_both (nat_eq c 0x40) _ _ (λ (a : Reading InOp Op). FineOp a) (λ _. tt) (λ _. type_fine (value_type_of p c) (λ t. Done (block_op i (Some t))) (λ t. tt))
+begin_fine : (p : Profile) (c : ℕ) → FineOp p (begin_step p c)
+begin_fine p c = cond_both (nat_eq c 0xFC) _ _ (λ (a : Reading InOp Op). FineOp p a) (λ _. prefix_fine p) (λ _. class_fine p (class_under p c))
 
-closing_fine : (o : Op) (c : ℕ) → FineOp (closing_step o c)
-closing_fine o c = cond_both (nat_eq c 0x00) _ _ (λ (a : Reading InOp Op). FineOp a) (λ _. tt) (λ _. tt)
+padded_fine : (p : Profile) (n : ℕ) (class : OpClass) → class_under p (0x100 + n) ≡ class → FineOp p (padded (class_step class) n)
+padded_fine p n (Plain o) e = (subst IsClassOfOp (sym e) tt, omega arith)
+padded_fine p n (With kind) e = (subst IsClassOfOp (sym e) tt, omega arith)
+padded_fine p n Float e = tt
+padded_fine p n None e = tt
 
-answer_fine : {T : Type 0} (bits : ℕ) (q : Step T × Partial) (more : Partial → InOp) (done : T → Reading InOp Op) → RoomAfter bits q → ((r : Partial) → HasRoom bits r → SoundOp (more r)) → ((v : T) → FineOp (done v)) → FineOp (on_answer q (λ r. More (more r)) done (Bad why.BadNumber))
-answer_fine bits (step.More, r) more done h f g = f r h
-answer_fine bits (step.Done v, r) more done h f g = g v
-answer_fine bits (step.Bad, r) more done h f g = tt
+code_fine : (p : Profile) (c : ℕ) → FineOp p (code_step p c)
+code_fine p c = cond_both (nat_lt c 0x80) _ _ (λ (a : Reading InOp Op). FineOp p a) (λ _. class_fine p (class_under p (0x100 + c))) (λ _. padded_fine p (c - 0x80) (class_under p (0x100 + (c - 0x80))) refl)
 
-pub op_fine : (p : Profile) (r : InOp) (c : ℕ) → c < 2 ^ 8 → SoundOp r → FineOp (op_push p r c)
-op_fine p at.First c byte h = first_fine (class_under p c)
+more_fine : (p : Profile) (n left c : ℕ) → IsClassOfOp (class_under p (0x100 + n)) × (left ≤ 3) → FineOp p (more_padding n left c)
+more_fine p n zero c h = tt
+more_fine p n (suc left) c h = cond_both (nat_eq c 0x80) _ _ (λ (a : Reading InOp Op). FineOp p a) (λ _. (h.0, omega (arith, h.1))) (λ _. tt)
+
+padding_fine : (p : Profile) (n left c : ℕ) → IsClassOfOp (class_under p (0x100 + n)) × (left ≤ 3) → FineOp p (padding_step p n left c)
+padding_fine p n left c h = cond_both (nat_eq c 0x00) _ _ (λ (a : Reading InOp Op). FineOp p a) (λ _. class_fine p (class_under p (0x100 + n))) (λ _. more_fine p n left c h)
+
+first_zero_fine : (p : Profile) (c : ℕ) → FineOp p (first_zero_step c)
+first_zero_fine p c = cond_both (nat_eq c 0x00) _ _ (λ (a : Reading InOp Op). FineOp p a) (λ _. tt) (λ _. tt)
+
+type_fine : (p : Profile) (q : Result ValType Why) (f : ValType → Reading InOp Op) → ((t : ValType) → FineOp p (f t)) → FineOp p (read_type q f)
+type_fine p (Ok t) f h = h t
+type_fine p (Err w) f h = tt
+
+block_fine : (p : Profile) (i : BlockOp) (c : ℕ) → FineOp p (block_step p i c)
+block_fine p i c = cond_both (nat_eq c 0x40) _ _ (λ (a : Reading InOp Op). FineOp p a) (λ _. tt) (λ _. type_fine p (value_type_of p c) (λ t. Done (block_op i (Some t))) (λ t. tt))
+
+closing_fine : (p : Profile) (o : Op) (c : ℕ) → FineOp p (closing_step o c)
+closing_fine p o c = cond_both (nat_eq c 0x00) _ _ (λ (a : Reading InOp Op). FineOp p a) (λ _. tt) (λ _. tt)
+
+long_fine : (p : Profile) (n left c : ℕ) → FineOp p (long_step n left c)
+long_fine p n zero c = tt
+long_fine p n (suc left) c = cond_both (nat_eq c 0x80) _ _ (λ (a : Reading InOp Op). FineOp p a) (λ _. tt) (λ _. tt)
+
+table_fine : (p : Profile) (n left c : ℕ) → FineOp p (table_step p n left c)
+table_fine p n left c = cond_both (nat_eq c 0x00) _ _ (λ (a : Reading InOp Op). FineOp p a) (λ _. tt) (λ _. cond_both (has p LongIndex) _ _ (λ (a : Reading InOp Op). FineOp p a) (λ _. long_fine p n left c) (λ _. tt))
+
+answer_fine : {T : Type 0} (p : Profile) (bits : ℕ) (q : Step T × Partial) (more : Partial → InOp) (done : T → Reading InOp Op) → RoomAfter bits q → ((r : Partial) → HasRoom bits r → SoundOp p (more r)) → ((v : T) → FineOp p (done v)) → FineOp p (on_answer q (λ r. More (more r)) done (Bad why.BadNumber))
+answer_fine p bits (step.More, r) more done h f g = f r h
+answer_fine p bits (step.Done v, r) more done h f g = g v
+answer_fine p bits (step.Bad, r) more done h f g = tt
+
+pub op_fine : (p : Profile) (r : InOp) (c : ℕ) → c < 2 ^ 8 → SoundOp p r → FineOp p (op_push p r c)
+op_fine p at.First c byte h = begin_fine p c
+op_fine p at.Code c byte h = code_fine p c
+op_fine p (at.Padding n left) c byte h = padding_fine p n left c h
 op_fine p (at.BlockType i) c byte h = block_fine p i c
-op_fine p (at.Index i r) c byte h = answer_fine 32 (unsigned_push 32 r c) (λ t. at.Index i t) (λ n. Done (index_op i n)) (unsigned_room 32 r c h byte) (λ t g. g) (λ n. tt)
-op_fine p (at.CallType r) c byte h = answer_fine 32 (unsigned_push 32 r c) (λ t. at.CallType t) (λ n. More (at.CallTable n)) (unsigned_room 32 r c h byte) (λ t g. g) (λ n. tt)
-op_fine p (at.CallTable n) c byte h = closing_fine (call_op n) c
-op_fine p (at.Memory m) c byte h = closing_fine (memory_op m) c
-op_fine p (at.Const32 r) c byte h = answer_fine 32 (signed_push 32 r c) (λ t. at.Const32 t) (λ z. Done (const_32_op z)) (signed_room 32 r c h byte) (λ t g. g) (λ z. tt)
-op_fine p (at.Const64 r) c byte h = answer_fine 64 (signed_push 64 r c) (λ t. at.Const64 t) (λ z. Done (const_64_op z)) (signed_room 64 r c h byte) (λ t g. g) (λ z. tt)
+op_fine p (at.Index i r) c byte h = answer_fine p 32 (unsigned_push 32 r c) (λ t. at.Index i t) (λ n. Done (index_op i n)) (unsigned_room 32 r c h byte) (λ t g. g) (λ n. tt)
+op_fine p (at.CallType r) c byte h = answer_fine p 32 (unsigned_push 32 r c) (λ t. at.CallType t) (λ n. More (at.CallTable n 4)) (unsigned_room 32 r c h byte) (λ t g. g) (λ n. tt)
+op_fine p (at.CallTable n left) c byte h = table_fine p n left c
+op_fine p at.FirstZero c byte h = first_zero_fine p c
+op_fine p (at.Memory m) c byte h = closing_fine p (memory_op m) c
+op_fine p (at.Const32 r) c byte h = answer_fine p 32 (signed_push 32 r c) (λ t. at.Const32 t) (λ z. Done (const_32_op z)) (signed_room 32 r c h byte) (λ t g. g) (λ z. tt)
+op_fine p (at.Const64 r) c byte h = answer_fine p 64 (signed_push 64 r c) (λ t. at.Const64 t) (λ z. Done (const_64_op z)) (signed_room 64 r c h byte) (λ t g. g) (λ z. tt)
 op_fine p (at.Float32 zero low) c byte h = tt
 op_fine p (at.Float32 (suc left) low) c byte h = tt
 op_fine p (at.Float64 zero low) c byte h = tt
 op_fine p (at.Float64 (suc left) low) c byte h = tt
-op_fine p (at.Align a r) c byte h = answer_fine 32 (unsigned_push 32 r c) (λ t. at.Align a t) (λ n. More (at.Offset a n fresh)) (unsigned_room 32 r c h byte) (λ t g. g) (λ n. fresh_32)
-op_fine p (at.Offset a n r) c byte h = answer_fine 32 (unsigned_push 32 r c) (λ t. at.Offset a n t) (λ m. Done (at_offset a n m)) (unsigned_room 32 r c h byte) (λ t g. g) (λ m. tt)
+op_fine p (at.Align a r) c byte h = answer_fine p 32 (unsigned_push 32 r c) (λ t. at.Align a t) (λ n. More (at.Offset a n fresh)) (unsigned_room 32 r c h byte) (λ t g. g) (λ n. fresh_32)
+op_fine p (at.Offset a n r) c byte h = answer_fine p 32 (unsigned_push 32 r c) (λ t. at.Offset a n t) (λ m. Done (at_offset a n m)) (unsigned_room 32 r c h byte) (λ t g. g) (λ m. tt)
 
 -- the last byte of a number
 pub last_byte : (r : Partial) → 7 * r.count < 32 → Left r r.low (0 ∷ [])
@@ -148,19 +192,56 @@ last_signed_byte bits r h = (h, pos 0, refl, inl (omega arith, pow_pos (bits - 7
 fresh_last : Left fresh 0 (0 ∷ [])
 fresh_last = last_byte fresh (omega arith)
 
-pub some_op : (p : Profile) (r : InOp) → SoundOp r → (o : Op) × (b : List ℕ) × op_rest p r o b
-some_op p at.First h = (op.End, 0x0B ∷ [], (tt, tt, refl))
-some_op p (at.BlockType i) h = (block_op i Nothing, 0x40 ∷ [], (Nothing, refl, (tt, refl)))
-some_op p (at.Index i r) h = (index_op i r.low, 0 ∷ [], (r.low, refl, last_byte r h.0))
-some_op p (at.CallType r) h = (call_op r.low, 0 ∷ 0 ∷ [], (r.low, 0 ∷ [], 0 ∷ [], refl, last_byte r h.0, (refl, refl)))
-some_op p (at.CallTable n) h = (call_op n, 0 ∷ [], (refl, refl))
-some_op p (at.Memory m) h = (memory_op m, 0 ∷ [], (refl, refl))
-some_op p (at.Const32 r) h = (const_32_op (last_signed r (pos 0)), 0 ∷ [], (last_signed r (pos 0), refl, last_signed_byte 32 r h.0))
-some_op p (at.Const64 r) h = (const_64_op (last_signed r (pos 0)), 0 ∷ [], (last_signed r (pos 0), refl, last_signed_byte 64 r h.0))
-some_op p (at.Float32 left low) h = let g = float_comes (2 ^ 24) left low in (float_32_op g.0, g.1, (g.0, refl, g.2))
-some_op p (at.Float64 left low) h = let g = float_comes (2 ^ 56) left low in (float_64_op g.0, g.1, (g.0, refl, g.2))
-some_op p (at.Align a r) h = (at_offset a r.low 0, 0 ∷ 0 ∷ [], (r.low, 0 ∷ [], 0 ∷ [], refl, last_byte r h.0, (0, refl, fresh_last)))
-some_op p (at.Offset a n r) h = (at_offset a n r.low, 0 ∷ [], (r.low, refl, last_byte r h.0))
+-- a state outside of the number behind the prefix
+abbrev PastCode : InOp → Type 0
+PastCode at.Code = ⊥
+PastCode (at.Padding n left) = ⊥
+PastCode _ = Unit {0}
+
+immediates_past : (kind : Immediates) → PastCode (immediates kind)
+immediates_past k.Block = tt
+immediates_past _ = tt
+
+some_rest : (p : Profile) (r : InOp) → SoundOp p r → PastCode r → (o : Op) × (b : List ℕ) × op_rest p r o b
+some_rest p at.First h k = (op.End, 0x0B ∷ [], (tt, tt, refl))
+some_rest p at.Code h k = absurd k
+some_rest p (at.Padding n left) h k = absurd k
+some_rest p (at.BlockType i) h k = (block_op i Nothing, 0x40 ∷ [], (Nothing, refl, (tt, refl)))
+some_rest p (at.Index i r) h k = (index_op i r.low, 0 ∷ [], (r.low, refl, last_byte r h.0))
+some_rest p (at.CallType r) h k = (call_op r.low, 0 ∷ 0 ∷ [], (r.low, 0 ∷ [], 0 ∷ [], refl, last_byte r h.0, (refl, inl refl)))
+some_rest p (at.CallTable n left) h k = (call_op n, 0 ∷ [], (refl, inl refl))
+some_rest p at.FirstZero h k = (memory_op memory.Copy, 0 ∷ 0 ∷ [], (refl, (0 ∷ [], 0 ∷ [], refl, refl, refl)))
+some_rest p (at.Memory m) h k = (memory_op m, 0 ∷ [], (refl, refl))
+some_rest p (at.Const32 r) h k = (const_32_op (last_signed r (pos 0)), 0 ∷ [], (last_signed r (pos 0), refl, last_signed_byte 32 r h.0))
+some_rest p (at.Const64 r) h k = (const_64_op (last_signed r (pos 0)), 0 ∷ [], (last_signed r (pos 0), refl, last_signed_byte 64 r h.0))
+some_rest p (at.Float32 left low) h k = let g = float_comes (2 ^ 24) left low in (float_32_op g.0, g.1, (g.0, refl, g.2))
+some_rest p (at.Float64 left low) h k = let g = float_comes (2 ^ 56) left low in (float_64_op g.0, g.1, (g.0, refl, g.2))
+some_rest p (at.Align a r) h k = (at_offset a r.low 0, 0 ∷ 0 ∷ [], (r.low, 0 ∷ [], 0 ∷ [], refl, last_byte r h.0, (0, refl, fresh_last)))
+some_rest p (at.Offset a n r) h k = (at_offset a n r.low, 0 ∷ [], (r.low, refl, last_byte r h.0))
+
+-- behind the code of an op
+class_comes : (p : Profile) (x : ℕ) (class : OpClass) → class_under p x ≡ class → IsClassOfOp class → (o : Op) × (b : List ℕ) × Coded p x o b
+class_comes p x (Plain v) e h = (v, [], coded_from p x (Plain v) e v [] (refl, refl))
+class_comes p x (With kind) e h = let r = some_rest p (immediates kind) (immediates_sound p kind) (immediates_past kind) in (r.0, r.1, coded_from p x (With kind) e r.0 r.1 r.2)
+class_comes p x Float e h = absurd h
+class_comes p x None e h = absurd h
+
+is_class : (o : Op) → IsClassOfOp (class_of o)
+is_class (op.Simple (simple.Br l)) = tt
+is_class (op.Simple _) = tt
+is_class _ = tt
+
+pub some_op : (p : Profile) (r : InOp) → SoundOp p r → (o : Op) × (b : List ℕ) × op_rest p r o b
+some_op p at.Code h =
+    let f = some_behind p h in
+    let class : IsClassOfOp (class_under p (0x100 + f.1)) = subst IsClassOfOp (sym (found_under p (0x100 + f.1) f.0 f.2 f.3)) (is_class f.0) in
+    let g = class_comes p (0x100 + f.1) (class_under p (0x100 + f.1)) refl class in
+    (g.0, f.1 ∷ g.1, (f.1, (f.1 ∷ [], g.1, refl, inl (omega (arith, f.4), omega (arith, f.4), refl, refl), g.2)))
+some_op p (at.Padding n left) h =
+    let g = class_comes p (0x100 + n) (class_under p (0x100 + n)) refl h.0 in
+    (g.0, 0 ∷ g.1, (0 ∷ [], g.1, refl, one_zero left (0 ∷ []) refl, g.2))
+some_op p at.First h = some_rest p at.First h tt
+some_op p r h = some_rest p r h tt
 
 -- The names by which an op or a member fails, whatever the byte. Float is none: it has bytes of its own.
 abbrev pub IsOther : Why → Type 0
@@ -189,11 +270,43 @@ module _ (name : Why) (Fault : ℕ → Type 0) (other : (w : Why) → IsOther w 
   done_faults : (c : ℕ) (o : Op) → Faults c (Done o)
   done_faults c o e = cc
 
-  first_faults : (p : Profile) (c : ℕ) (class : OpClass) → class_under p c ≡ class → Faults c (first_step class)
-  first_faults p c (Plain o) e = done_faults c o
-  first_faults p c (With kind) e = more_faults c (immediates kind)
-  first_faults p c Float e = λ f. float c (same_bad why.Float name f) (inr (inr (float_under p c e)))
-  first_faults p c None e = no_fault c why.BadOpcode tt
+  class_faults : (p : Profile) (c : ℕ) (class : OpClass) → class_under p c ≡ class → Faults c (class_step class)
+  class_faults p c (Plain o) e = done_faults c o
+  class_faults p c (With kind) e = more_faults c (immediates kind)
+  class_faults p c Float e = λ f. float c (same_bad why.Float name f) (inr (inr (float_under p c e)))
+  class_faults p c None e = no_fault c why.BadOpcode tt
+
+  begin_faults : (p : Profile) (c : ℕ) → Faults c (begin_step p c)
+  begin_faults p c = cond_both (nat_eq c 0xFC) _ _ (λ (a : Reading InOp Op). Faults c a)
+      (λ _. cond_both (has_prefix p) _ _ (λ (a : Reading InOp Op). Faults c a) (λ _. more_faults c at.Code) (λ _. no_fault c why.BadOpcode tt))
+      (λ _. class_faults p c (class_under p c) refl)
+
+  -- none behind the prefix is a float's
+  behind_faults : (p : Profile) (n c : ℕ) (class : OpClass) → class_under p (0x100 + n) ≡ class → Faults c (class_step class)
+  behind_faults p n c (Plain o) e = done_faults c o
+  behind_faults p n c (With kind) e = more_faults c (immediates kind)
+  behind_faults p n c Float e = absurd (behind_no_float p n e)
+  behind_faults p n c None e = no_fault c why.BadOpcode tt
+
+  padded_faults : (p : Profile) (n c : ℕ) (class : OpClass) → class_under p (0x100 + n) ≡ class → Faults c (padded (class_step class) n)
+  padded_faults p n c (Plain o) e = more_faults c (at.Padding n 3)
+  padded_faults p n c (With kind) e = more_faults c (at.Padding n 3)
+  padded_faults p n c Float e = absurd (behind_no_float p n e)
+  padded_faults p n c None e = no_fault c why.BadOpcode tt
+
+  code_faults : (p : Profile) (c : ℕ) → Faults c (code_step p c)
+  code_faults p c = cond_both (nat_lt c 0x80) _ _ (λ (a : Reading InOp Op). Faults c a)
+      (λ _. behind_faults p c c (class_under p (0x100 + c)) refl) (λ _. padded_faults p (c - 0x80) c (class_under p (0x100 + (c - 0x80))) refl)
+
+  padding_more : (n left c : ℕ) → Faults c (more_padding n left c)
+  padding_more n zero c = no_fault c why.BadOpcode tt
+  padding_more n (suc left) c = cond_both (nat_eq c 0x80) _ _ (λ (a : Reading InOp Op). Faults c a) (λ _. more_faults c (at.Padding n left)) (λ _. no_fault c why.BadOpcode tt)
+
+  padding_faults : (p : Profile) (n left c : ℕ) → Faults c (padding_step p n left c)
+  padding_faults p n left c = cond_both (nat_eq c 0x00) _ _ (λ (a : Reading InOp Op). Faults c a) (λ _. behind_faults p n c (class_under p (0x100 + n)) refl) (λ _. padding_more n left c)
+
+  first_zero_faults : (c : ℕ) → Faults c (first_zero_step c)
+  first_zero_faults c = cond_both (nat_eq c 0x00) _ _ (λ (a : Reading InOp Op). Faults c a) (λ _. more_faults c (at.Memory memory.Copy)) (λ _. no_fault c why.BadByte tt)
 
   -- a type of floating-point numbers, where the profile may have it
   under_faults : (p : Profile) (t : ValType) (c : ℕ) → IsFloatByte c → type_under p t ≡ Err name → Fault c
@@ -217,17 +330,27 @@ module _ (name : Why) (Fault : ℕ → Type 0) (other : (w : Why) → IsOther w 
   closing_faults : (o : Op) (c : ℕ) → Faults c (closing_step o c)
   closing_faults o c = cond_both (nat_eq c 0x00) _ _ (λ (a : Reading InOp Op). Faults c a) (λ _. done_faults c o) (λ _. no_fault c why.BadByte tt)
 
+  long_faults : (n left c : ℕ) → Faults c (long_step n left c)
+  long_faults n zero c = no_fault c why.BadNumber tt
+  long_faults n (suc left) c = cond_both (nat_eq c 0x80) _ _ (λ (a : Reading InOp Op). Faults c a) (λ _. more_faults c (at.CallTable n left)) (λ _. no_fault c why.BadNumber tt)
+
+  table_faults : (p : Profile) (n left c : ℕ) → Faults c (table_step p n left c)
+  table_faults p n left c = cond_both (nat_eq c 0x00) _ _ (λ (a : Reading InOp Op). Faults c a) (λ _. done_faults c (call_op n)) (λ _. cond_both (has p LongIndex) _ _ (λ (a : Reading InOp Op). Faults c a) (λ _. long_faults n left c) (λ _. no_fault c why.BadByte tt))
+
   answer_faults : {T : Type 0} (c : ℕ) (q : Step T × Partial) (more : Partial → InOp) (done : T → Reading InOp Op) → ((v : T) → Faults c (done v)) → Faults c (on_answer q (λ r. More (more r)) done (Bad why.BadNumber))
   answer_faults c (step.More, r) more done g = more_faults c (more r)
   answer_faults c (step.Done v, r) more done g = g v
   answer_faults c (step.Bad, r) more done g = no_fault c why.BadNumber tt
 
   pub op_faults : (p : Profile) (r : InOp) (c : ℕ) → op_push p r c ≡ Bad name → Fault c
-  op_faults p at.First c = first_faults p c (class_under p c) refl
+  op_faults p at.First c = begin_faults p c
+  op_faults p at.Code c = code_faults p c
+  op_faults p (at.Padding n left) c = padding_faults p n left c
   op_faults p (at.BlockType i) c = block_faults p i c
   op_faults p (at.Index i r) c = answer_faults c (unsigned_push 32 r c) (λ t. at.Index i t) (λ n. Done (index_op i n)) (λ n. done_faults c (index_op i n))
-  op_faults p (at.CallType r) c = answer_faults c (unsigned_push 32 r c) (λ t. at.CallType t) (λ n. More (at.CallTable n)) (λ n. more_faults c (at.CallTable n))
-  op_faults p (at.CallTable n) c = closing_faults (call_op n) c
+  op_faults p (at.CallType r) c = answer_faults c (unsigned_push 32 r c) (λ t. at.CallType t) (λ n. More (at.CallTable n 4)) (λ n. more_faults c (at.CallTable n 4))
+  op_faults p (at.CallTable n left) c = table_faults p n left c
+  op_faults p at.FirstZero c = first_zero_faults c
   op_faults p (at.Memory m) c = closing_faults (memory_op m) c
   op_faults p (at.Const32 r) c = answer_faults c (signed_push 32 r c) (λ t. at.Const32 t) (λ z. Done (const_32_op z)) (λ z. done_faults c (const_32_op z))
   op_faults p (at.Const64 r) c = answer_faults c (signed_push 64 r c) (λ t. at.Const64 t) (λ z. Done (const_64_op z)) (λ z. done_faults c (const_64_op z))

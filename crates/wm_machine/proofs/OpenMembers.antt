@@ -188,19 +188,19 @@ a_run : (p : Profile) → Comes (Run p)
 a_run p = record { bytes = 0 ∷ 0x7F ∷ []; marks = marks_ending (Some (locals 0 I32)) (0 ∷ 0x7F ∷ []); spelled = ((0, I32), (refl, (0 ∷ [], 0x7F ∷ [], refl, zero_u32, refl)), refl) }
 
 module _ (p : Profile) where
-  some_ops : (part : Op → Item) (left : ℕ) (e : InExpression) → SoundExpression left e → Comes (ExpressionRest p part e)
+  some_ops : (part : Op → Item) (left : ℕ) (e : InExpression) → SoundExpression p left e → Comes (ExpressionRest p part e)
   some_ops part left e h = let s = some_expression p part left e h in record { bytes = s.0; marks = s.1; spelled = s.2 }
 
   pub some_whole : (part : Op → Item) → Comes (Expression p part)
   some_whole part =
       let few : 0 < 2 ^ 32 = omega arith in
-      let s = some_expression p part 0 start (start_sound 0 few) in
+      let s = some_expression p part 0 start (start_sound p 0 few) in
       record { bytes = s.0; marks = s.1; spelled = (expression_same loose p part).from s.0 s.1 s.2 }
 
   pub some_runs : (n : ℕ) → Comes (Then (Times n (Run p)) (Expression p body_op))
   some_runs n = some_then (Times n (Run p)) (Expression p body_op) (some_times n (Run p) (a_run p)) (some_whole body_op)
 
-  pub some_of_entry : (left : ℕ) (q : InEntry) → StandsEntry left q → Comes (EntryRest loose p q)
+  pub some_of_entry : (left : ℕ) (q : InEntry) → StandsEntry p left q → Comes (EntryRest loose p q)
   some_of_entry left (entry.RunCount r) h = some_counted nothing_at (λ n. Then (Times n (Run p)) (Expression p body_op)) r h some_runs
   some_of_entry left (entry.Run more r) h = some_then (Leaf (run_rest p r) run_part) (Then (Times more (Run p)) (Expression p body_op)) (some_leaf (run_rest p r) run_part (some_run p r h)) (some_runs more)
   some_of_entry left (entry.Body e) h = some_ops body_op left e h.1
@@ -247,7 +247,7 @@ module _ (p : Profile) where
   some_form = some_then (OneByte 0x60 (Some new_type)) (Then (Vector (ValueType p param)) (ResultTypes p)) (record { bytes = 0x60 ∷ []; marks = outside_mark (Some new_type) ∷ []; spelled = (refl, refl) })
       (some_then (Vector (ValueType p param)) (ResultTypes p) (some_vector (ValueType p param) (some_type p param)) (some_results p))
 
-  some_place : (left : ℕ) (q : InMember) (y : List ℕ) → Stands left q → Comes (ComponentRest loose p q y)
+  some_place : (left : ℕ) (q : InMember) (y : List ℕ) → Stands p left q → Comes (ComponentRest loose p q y)
   some_place left at.TypeForm y h = some_form
   some_place left (at.ParamCount r) y h = some_counted nothing_at (λ n. Then (Times n (ValueType p param)) (ResultTypes p)) r h after_params
   some_place left (at.Param more) y h = after_params (suc more)
@@ -266,12 +266,12 @@ module _ (p : Profile) where
   some_place left at.Over y h = absurd h
   some_place left (at.Failed w) y h = absurd h
 
-  pub some_component : (left : ℕ) (q : InMember) (y : List ℕ) → CanGo left q → Comes (ComponentRest loose p q y)
+  pub some_component : (left : ℕ) (q : InMember) (y : List ℕ) → CanGo p left q → Comes (ComponentRest loose p q y)
   some_component left q y h = some_place left q y h.1
 
   -- a whole member
   pub some_one : (of : SectionKind) → Comes (OneOf loose p of)
   some_one of =
       let few : 0 < 2 ^ 32 = omega arith in
-      let s = some_component 0 (member_at_start of) [] (can_begin 0 few of) in
+      let s = some_component 0 (member_at_start of) [] (can_begin p 0 few of) in
       record { bytes = s.bytes; marks = s.marks; spelled = (begin_same loose p of).from s.bytes s.marks s.spelled }

@@ -98,7 +98,7 @@ module _ {H : Type 0} (after : H → Item → Result H Why) (s : Setting H) wher
         by_machine : (w : Why) → IsRuleName w → (read_byte s.profile (state_of after s.profile s.limit l) c).at ≡ machine.Refused w → ⊥
         by_machine w i m =
             let before = reached after s.profile s.limit b Starts l taken in
-            let fit : Fits l.machine = subst (λ (z : MachineState). Fits z.machine) (sym byte_state) (run_fits s.profile state_at_start b bytes begin_fits) in
+            let fit : Fits s.profile l.machine = subst (λ (z : MachineState). Fits s.profile z.machine) (sym byte_state) (run_fits s.profile state_at_start b bytes begin_fits) in
             let frame : Framed l.machine b = subst (λ (z : MachineState). Framed z.machine b) (sym byte_state) (run_framed s.profile state_at_start [] b bytes (omega arith, refl)) in
             elim (heard_err (zone_of l.machine) l.name c (step_of s.profile l.machine c).0 (step_of s.profile l.machine c).1 w m) [
               | inl f ↦ not_machine (b ++ c ∷ []) w i (step_says s.profile l.machine c b byte (before.live (λ i. i)) fit frame w f)

@@ -219,13 +219,13 @@ custom_not custom.Skip c f e = cc
 custom_not (custom.Failed w) c f e = absurd f
 
 -- a place where something may come is not over
-within : (left : ℕ) (q : InMember) → Stands left q → IsWithin q
-within left (at.Constant of e) h = h.0
-within left (at.Entry more (entry.Body e)) h = h.1.0
-within left (at.Entry more q) h = tt
-within left at.Over h = h
-within left (at.Failed w) h = h
-within left q h = tt
+within : (p : Profile) (left : ℕ) (q : InMember) → Stands p left q → IsWithin q
+within p left (at.Constant of e) h = h.0
+within p left (at.Entry more (entry.Body e)) h = h.1.0
+within p left (at.Entry more q) h = tt
+within p left at.Over h = h
+within p left (at.Failed w) h = h
+within p left q h = tt
 
 -- where the count of the members is the last of the section
 begun_end : (of : SectionKind) (functions m n : ℕ) → machine_in_member of functions (suc m) n (member_at_start of) ≡ machine.Refused why.SectionEnd → ⊥
@@ -278,7 +278,7 @@ module _ (p : Profile) (c : ℕ) (byte : c < 2 ^ 8) where
         sized_ends c (suc more) (Within loose p of zero q y) (Later loose p (id_of of) functions) m
         (record { front = c ∷ []; back = []; front_marks = m ∷ []; back_marks = []; bytes = refl; marks = refl; first = n.from [] (m ∷ []) ([], refl, (refl, refl)); second = (refl, refl) }) (closing p of functions)
 
-    section_cut : (last more left : ℕ) (used : List ℕ) → InContents last (id_of of) more used → CanGo (suc more) q → IsText (member_step p q c).1 (y ++ c ∷ []) → machine_in_member of functions more left (member_step p q c).0 ≡ machine.Refused why.SectionEnd → Cut (Here more left) used
+    section_cut : (last more left : ℕ) (used : List ℕ) → InContents last (id_of of) more used → CanGo p (suc more) q → IsText (member_step p q c).1 (y ++ c ∷ []) → machine_in_member of functions more left (member_step p q c).0 ≡ machine.Refused why.SectionEnd → Cut (Here more left) used
     section_cut last more left used h can text e = go more left (member_step p q c).0 refl h e
       where
         read : ByteRead InMember
@@ -293,10 +293,10 @@ module _ (p : Profile) (c : ℕ) (byte : c < 2 ^ 8) where
         goes : StandsAt (member_step p q c).0 → Goes c (ComponentRest loose p q y)
         goes s =
             next_goes c (ComponentRest loose p q y) (ComponentRest loose p read.at read.name) read.mark next
-            (comes_at p more read.at read.name (subst (MayGo more) (sym same) (can_go_on p more q c byte can)) (subst StandsAt (sym same) s))
+            (comes_at p more read.at read.name (subst (MayGo p more) (sym same) (can_go_on p more q c byte can)) (subst StandsAt (sym same) s))
 
         go : (n l : ℕ) (r : InMember) → (member_step p q c).0 ≡ r → InContents last (id_of of) n used → machine_in_member of functions n l r ≡ machine.Refused why.SectionEnd → Cut (Here n l) used
-        go n l (at.Failed w) s h e = absurd (not_past_end c p q (within (suc more) q can.1) (s ∙ ap at.Failed (same_refused w why.SectionEnd e)))
+        go n l (at.Failed w) s h e = absurd (not_past_end c p q (within p (suc more) q can.1) (s ∙ ap at.Failed (same_refused w why.SectionEnd e)))
         go zero zero at.Over s h e = absurd (cc)
         go (suc n) zero at.Over s h e = inr (last, id_of of, n, h, ends_section (suc n) read.mark (subst (λ r. Next loose (ComponentRest loose p q y) c read.mark (ComponentRest loose p r read.name)) (same ∙ s) next))
         go zero (suc l) at.Over s h e = inl (last, id_of of, h, in_section zero (suc l) (goes (subst StandsAt (sym s) tt)))
@@ -387,7 +387,7 @@ module _ (p : Profile) (c : ℕ) (byte : c < 2 ^ 8) where
         ended (suc n) (custom.Length s) f not e = absurd (cc)
         ended (suc n) (custom.Name m) f not e = absurd (cc)
 
-  cut_says : (m : Machine) (b y : List ℕ) → Fits m → (IsRefused m → ⊥) → Framed m b → IsText (step_of p m c).1 (y ++ c ∷ []) → (step_of p m c).0 ≡ machine.Refused why.SectionEnd → Cut (MachineRest loose p m y) (b ++ c ∷ [])
+  cut_says : (m : Machine) (b y : List ℕ) → Fits p m → (IsRefused m → ⊥) → Framed m b → IsText (step_of p m c).1 (y ++ c ∷ []) → (step_of p m c).0 ≡ machine.Refused why.SectionEnd → Cut (MachineRest loose p m y) (b ++ c ∷ [])
   cut_says (machine.Header n) b y fits live f text e = absurd (header_not n c e)
   cut_says (machine.Between last functions) b y fits live f text e = absurd (start_not last functions c e)
   cut_says (machine.CustomSize last functions r) b y fits live f text e = custom_size_cut last functions r y (b ++ c ∷ []) (at_size last functions 0 r b c byte f.0 f.1) e
@@ -414,7 +414,7 @@ module _ (p : Profile) (b : List ℕ) (bytes : AreBytes b) (c : ℕ) where
   can_end g = (g.0, g.1, marks p state_at_start b ++ g.2, whole g.0 g.2 g.3)
 
   -- no whole input begins so
-  no_input : (m : Machine) (y : List ℕ) → record { machine = m; name = y } ≡ state_after p state_at_start b → Fits m → c < 2 ^ 8 → IsText (step_of p m c).1 (y ++ c ∷ []) → (step_of p m c).0 ≡ machine.Refused why.SectionEnd
+  no_input : (m : Machine) (y : List ℕ) → record { machine = m; name = y } ≡ state_after p state_at_start b → Fits p m → c < 2 ^ 8 → IsText (step_of p m c).1 (y ++ c ∷ []) → (step_of p m c).0 ≡ machine.Refused why.SectionEnd
       → (more : List ℕ) (k : Marks) → Items p ((b ++ c ∷ []) ++ more) k → ⊥
   no_input m y same fits byte text e more k h =
       let i : Items p (b ++ c ∷ more) k = subst (λ z. Items p z k) (append_assoc b (c ∷ []) more) h in
@@ -437,7 +437,7 @@ module _ (p : Profile) (b : List ℕ) (bytes : AreBytes b) (c : ℕ) where
   by_cut byte (inl (last, id, h, g)) none = framed_so last id 0 h (inl ((let r = h.room in omega (arith, r)), goes_on g)) none
   by_cut byte (inr (last, id, n, h, g)) none = framed_so last id (suc n) h (inr ((let r = h.room in omega (arith, r)), can_end g)) none
 
-  pub other_size : c < 2 ^ 8 → (m : Machine) (y : List ℕ) → record { machine = m; name = y } ≡ state_after p state_at_start b → Fits m → (IsRefused m → ⊥) → Framed m b → IsText (step_of p m c).1 (y ++ c ∷ []) → (step_of p m c).0 ≡ machine.Refused why.SectionEnd
+  pub other_size : c < 2 ^ 8 → (m : Machine) (y : List ℕ) → record { machine = m; name = y } ≡ state_after p state_at_start b → Fits p m → (IsRefused m → ⊥) → Framed m b → IsText (step_of p m c).1 (y ++ c ∷ []) → (step_of p m c).0 ≡ machine.Refused why.SectionEnd
       → OtherSize p (b ++ c ∷ [])
   other_size byte m y same fits live f text e =
       by_cut byte (subst (λ (s : MachineState). Cut p c byte (MachineRest loose p s.machine s.name) (b ++ c ∷ [])) same (cut_says p c byte m b y fits live f text e)) (no_input m y same fits byte text e)

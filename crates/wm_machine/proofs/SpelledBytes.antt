@@ -1,6 +1,5 @@
 -- Everything that is spelled consists of bytes.
-use Rattle.std.proofs.Common.{ℕ, zero, suc, ◌<◌, ◌≤◌, ◌/◌, ◌%◌, ◌^◌, ℤ, List, [], ◌∷◌, Option, Some, None, length, sym, subst, arith, inl, inr, ◌-◌, Bool, true, false}
-use Rattle.std.proofs.lemmas.Option.{slice_get_within}
+use Rattle.std.proofs.Common.{ℕ, zero, suc, ◌<◌, ◌/◌, ◌%◌, ◌^◌, ℤ, List, [], ◌∷◌, Option, Some, None, length, sym, subst, arith, inl, inr, ◌-◌, Bool, true, false}
 use Rattle.wm_syntax.specs.declared.types.ValType.{ValType}
 use Rattle.wm_syntax.specs.declared.types.ValType.TheVariants.{I32, I64, F32, F64}
 use Rattle.wm_syntax.specs.declared.types.Limits.{Limits}
@@ -14,17 +13,15 @@ use Rattle.wm_syntax.specs.declared.modules.ImportDesc.TheVariants as desc
 use Rattle.wm_syntax.specs.declared.modules.ExportKind.{ExportKind}
 use Rattle.wm_syntax.specs.declared.modules.ExportKind.TheVariants as kind
 use Rattle.wm_syntax.specs.declared.profile.Profile.{Profile}
-use Rattle.wm_syntax.proofs.ProfileLaws.{four_extends, module_of_four}
+use Rattle.wm_syntax.proofs.CodeBytes.{code_forms}
+use Rattle.wm_syntax.proofs.ProfileLaws.{every_extends, module_of_every}
 use Rattle.wm_syntax.specs.Spelling.{Form, Byte, Exactly, AreBytes, Each, ◌▸◌}
 use Rattle.wm_syntax.specs.Leb128.{Unsigned, Signed}
 use Rattle.wm_syntax.specs.Types.{Signature, SpellsU32, SpellsBytes, SpellsName, SpellsList, SpellsValType, SpellsBlockType, SpellsSignature, SpellsBounds, SpellsLimits, SpellsTableType, SpellsVar, SpellsGlobalType}
-use Rattle.wm_syntax.specs.Instructions.{SpellsFloat, SpellsImmediates, SpellsOp}
-use Rattle.wm_syntax.specs.Profiles.{HasSignature, four}
+use Rattle.wm_syntax.specs.Encodings.{SpellsOpcode, SpellsFloat, SpellsImmediates, SpellsOp, SpellsTable}
+use Rattle.wm_syntax.specs.Profiles.{HasSignature, every}
 use Rattle.wm_syntax.specs.Opcodes.{opcode}
-use Rattle.wm_syntax.specs.OpClasses.{class_of}
-use Rattle.wm_syntax.specs.exact.ByteTable.{classes}
 use Rattle.wm_syntax.specs.Modules.{Import, Module}
-use Rattle.wm_syntax.proofs.OpTable.{found_simple}
 use Rattle.wm_machine.specs.Sections.{Sized, Those, Section, ListSection, StartSection, Customs, SpellsCustom, header, SpellsDesc, SpellsImport, SpellsExport, SpellsRun, SpellsModule, kind_byte}
 use Rattle.wm_machine.specs.Items.{Marks}
 use Rattle.wm_machine.specs.Grammar.{strict, ModuleForm as Whole}
@@ -104,45 +101,51 @@ in_global_type g = in_then (in_type g.ty) (var g.var)
     var true = in_byte 0x01 (omega arith)
 
 -- ops
-in_opcode : (i : Simple) → (opcode i).0 < 2 ^ 8
-in_opcode i =
-    let within : (opcode i).0 < length classes = slice_get_within classes (opcode i).0 (class_of (op.Simple i)) (found_simple i) in
-    let few : length classes ≤ 2 ^ 8 = omega arith in
-    omega arith
+in_code : (c : ℕ) → InBytes (SpellsOpcode c)
+in_code c b h = elim (code_forms c b h) [
+  | inl f ↦ in_byte c f.0 b f.1
+  | inr f ↦ in_then (in_byte 0xFC (omega arith)) (in_u32 (c - 0x100)) b f.1
+]
 
 in_float : (width n : ℕ) → InBytes (SpellsFloat width n)
 in_float zero n = λ b h. in_none b h.1
 in_float (suc width) n = in_then (in_byte (n % 256) (omega arith)) (in_float width (n / 256))
 
-in_immediates : (i : Simple) → InBytes (SpellsImmediates i)
-in_immediates (s.Br l) = in_u32 l
-in_immediates (s.BrIf l) = in_u32 l
-in_immediates (s.Call x) = in_u32 x
-in_immediates (s.CallIndirect x) = in_then (in_u32 x) (in_byte 0x00 (omega arith))
-in_immediates (s.LocalGet x) = in_u32 x
-in_immediates (s.LocalSet x) = in_u32 x
-in_immediates (s.LocalTee x) = in_u32 x
-in_immediates (s.GlobalGet x) = in_u32 x
-in_immediates (s.GlobalSet x) = in_u32 x
-in_immediates s.MemorySize = in_byte 0x00 (omega arith)
-in_immediates s.MemoryGrow = in_byte 0x00 (omega arith)
-in_immediates (s.I32Const n) = in_signed 32 n
-in_immediates (s.I64Const n) = in_signed 64 n
-in_immediates (s.F32Const n) = in_float 4 n
-in_immediates (s.F64Const n) = in_float 8 n
-in_immediates (s.Load o at) = in_then (in_u32 at.align) (in_u32 at.offset)
-in_immediates (s.Store o at) = in_then (in_u32 at.align) (in_u32 at.offset)
-in_immediates _ = in_none
+in_table_index : (p : Profile) → InBytes (SpellsTable p)
+in_table_index p b (inl e) = in_byte 0x00 (omega arith) b e
+in_table_index p b (inr h) = in_u32 0 b h.1
 
-in_op : (o : Op) → InBytes (SpellsOp o)
-in_op (op.Simple i) = in_then (in_byte (opcode i).0 (in_opcode i)) (in_immediates i)
-in_op (op.Block t) = in_then (in_byte 0x02 (omega arith)) (in_block t)
-in_op (op.Loop t) = in_then (in_byte 0x03 (omega arith)) (in_block t)
-in_op (op.If t) = in_then (in_byte 0x04 (omega arith)) (in_block t)
-in_op op.Else = in_byte 0x05 (omega arith)
-in_op op.End = in_byte 0x0B (omega arith)
-in_op (op.BrTable n) = in_then (in_byte 0x0E (omega arith)) (in_u32 n)
-in_op (op.Label l) = in_u32 l
+in_immediates : (p : Profile) (i : Simple) → InBytes (SpellsImmediates p i)
+in_immediates p (s.Br l) = in_u32 l
+in_immediates p (s.BrIf l) = in_u32 l
+in_immediates p (s.Call x) = in_u32 x
+in_immediates p (s.CallIndirect x) = in_then (in_u32 x) (in_table_index p)
+in_immediates p (s.LocalGet x) = in_u32 x
+in_immediates p (s.LocalSet x) = in_u32 x
+in_immediates p (s.LocalTee x) = in_u32 x
+in_immediates p (s.GlobalGet x) = in_u32 x
+in_immediates p (s.GlobalSet x) = in_u32 x
+in_immediates p s.MemorySize = in_byte 0x00 (omega arith)
+in_immediates p s.MemoryGrow = in_byte 0x00 (omega arith)
+in_immediates p s.MemoryCopy = in_then (in_byte 0x00 (omega arith)) (in_byte 0x00 (omega arith))
+in_immediates p s.MemoryFill = in_byte 0x00 (omega arith)
+in_immediates p (s.I32Const n) = in_signed 32 n
+in_immediates p (s.I64Const n) = in_signed 64 n
+in_immediates p (s.F32Const n) = in_float 4 n
+in_immediates p (s.F64Const n) = in_float 8 n
+in_immediates p (s.Load o at) = in_then (in_u32 at.align) (in_u32 at.offset)
+in_immediates p (s.Store o at) = in_then (in_u32 at.align) (in_u32 at.offset)
+in_immediates p _ = in_none
+
+in_op : (p : Profile) (o : Op) → InBytes (SpellsOp p o)
+in_op p (op.Simple i) = in_then (in_code (opcode i).0) (in_immediates p i)
+in_op p (op.Block t) = in_then (in_byte 0x02 (omega arith)) (in_block t)
+in_op p (op.Loop t) = in_then (in_byte 0x03 (omega arith)) (in_block t)
+in_op p (op.If t) = in_then (in_byte 0x04 (omega arith)) (in_block t)
+in_op p op.Else = in_byte 0x05 (omega arith)
+in_op p op.End = in_byte 0x0B (omega arith)
+in_op p (op.BrTable n) = in_then (in_byte 0x0E (omega arith)) (in_u32 n)
+in_op p (op.Label l) = in_u32 l
 
 -- sections
 in_sized : {P : Form ℕ} → InBytes P → InBytes (Sized P)
@@ -184,7 +187,7 @@ in_kind kind.Global = in_byte 0x03 (omega arith)
 
 module _ (p : Profile) where
   in_ops : (ops : List Op) → InBytes (SpellsOps p ops)
-  in_ops ops b h = in_each SpellsOp in_op ops b h.2
+  in_ops ops b h = in_each (SpellsOp p) (in_op p) ops b h.2
 
   in_flat : (v : FlatModule) → InBytes (Exactly header ▸ InOrder (flat_sections p v))
   in_flat v =
@@ -212,4 +215,6 @@ module _ (p : Profile) where
   whole_bytes b k h = let u = items_to p b k h in flat_bytes u.0 b u.1
 
 pub spelled_bytes : (p : Profile) (m : Module) (b : List ℕ) → SpellsModule p m b → AreBytes b
-spelled_bytes p m b h = let u = flat_to four m b (spells_more p four (four_extends p) m b h) (module_of_four m) in flat_bytes four u.0 b u.2
+spelled_bytes p m b h =
+    let u = flat_to every m b (spells_more p every (every_extends p) m b h) (module_of_every m) in
+    flat_bytes every u.0 b u.2

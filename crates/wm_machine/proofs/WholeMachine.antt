@@ -414,13 +414,13 @@ module _ (demanded : Type 0) (p : Profile) where
   begin_at section_kind.Segment y = begin_same demanded p section_kind.Segment
 
   one_has : (of : SectionKind) → HasBytes demanded (OneOf demanded p of)
-  one_has of = has_same (OneOf demanded p of) (ComponentRest demanded p (begin_component of) []) (begin_same demanded p of) (component_has demanded p 0 (begin_component of) [] (can_begin 0 (omega arith) of))
+  one_has of = has_same (OneOf demanded p of) (ComponentRest demanded p (begin_component of) []) (begin_same demanded p of) (component_has demanded p 0 (begin_component of) [] (can_begin p 0 (omega arith) of))
 
   -- in a section
   abbrev Rest : SectionKind → ℕ → ℕ → InMember → List ℕ → ℕ → MarkedForm
   Rest of more left q y functions = Then (Sized demanded more (Within of left q y)) (Later (id_of of) functions)
 
-  frame_same : (of : SectionKind) (functions more left : ℕ) (q : InMember) (y : List ℕ) → more < 2 ^ 32 → MayGo more q → Same demanded (Rest of more left q y functions) (MachineRest (machine_in_member of functions more left q) y)
+  frame_same : (of : SectionKind) (functions more left : ℕ) (q : InMember) (y : List ℕ) → more < 2 ^ 32 → MayGo p more q → Same demanded (Rest of more left q y functions) (MachineRest (machine_in_member of functions more left q) y)
   frame_same of functions more left (at.Failed w) y few go =
       let T : MarkedForm = Times left (OneOf demanded p of) in
       never_then demanded (Sized demanded more (Then Never T)) (Later (id_of of) functions)
@@ -453,7 +453,7 @@ module _ (demanded : Type 0) (p : Profile) where
       (sized_none demanded (Within of left q y) (then_has demanded (ComponentRest demanded p q y) (Times left (OneOf demanded p of)) (component_has demanded p 0 q y go)))
   frame_same of functions (suc n) left q y few go = same_refl demanded (MachineRest (machine.Section of functions n left q) y)
 
-  in_section : (of : SectionKind) (functions more left : ℕ) (q : InMember) (so_far : List ℕ) (c : ℕ) → c < 2 ^ 8 → Fits (machine.Section of functions more left q)
+  in_section : (of : SectionKind) (functions more left : ℕ) (q : InMember) (so_far : List ℕ) (c : ℕ) → c < 2 ^ 8 → Fits p (machine.Section of functions more left q)
       → Continues (MachineRest (machine.Section of functions more left q) so_far) c (byte_read machine.Refused (zone_in q) so_far c (step_of p (machine.Section of functions more left q) c))
   in_section of functions more left q so_far c byte fits =
       let P : MarkedForm = ComponentRest demanded p q so_far in
@@ -461,7 +461,7 @@ module _ (demanded : Type 0) (p : Profile) where
       let L : MarkedForm = Later (id_of of) functions in
       let F : MarkedForm = Then (Sized demanded (suc more) (Then P T)) L in
       let few : more < 2 ^ 32 = (let l = fits.1 in omega (arith, l)) in
-      lifted at.Failed (ComponentRest demanded p) (machine_in_member of functions more left) (λ w. refl) (MayGo more) (λ w. tt) P F (zone_in q) so_far c
+      lifted at.Failed (ComponentRest demanded p) (machine_in_member of functions more left) (λ w. refl) (MayGo p more) (λ w. tt) P F (zone_in q) so_far c
       (λ m x y i h.
       let R : MarkedForm = ComponentRest demanded p m y in
       next_to demanded F (Then (Sized demanded more (Then R T)) L) (MachineRest (machine_in_member of functions more left m) y) c x (frame_same of functions more left m y few i)
@@ -484,7 +484,7 @@ module _ (demanded : Type 0) (p : Profile) where
       let T : MarkedForm = Times n O in
       same_then demanded (Then (Sized demanded more (Then O T)) L) (Then (Sized demanded more (Then B T)) L) (MachineRest (machine_after_count of functions more (suc n)) [])
       (then_same demanded (Sized demanded more (Then O T)) L (Sized demanded more (Then B T)) L (sized_same demanded (Then O T) (Then B T) more (then_same demanded O T B T (begin_same demanded p of) (same_refl demanded T))) (same_refl demanded L))
-      (frame_same of functions more n (begin_component of) [] few (may_begin more few of))
+      (frame_same of functions more n (begin_component of) [] few (may_begin p more few of))
 
   abbrev Read : SectionKind → (functions more v : ℕ) → MarkedForm
   Read of functions more v = ForSome (KnownIn (id_of of) functions) (λ f. Then (Sized demanded more (ListOf of f v)) (After of f))
@@ -567,7 +567,7 @@ module _ (demanded : Type 0) (p : Profile) where
   sizes of functions r so_far c (Bad, s) h = some_none demanded (KnownIn (id_of of) functions) (λ f. Counted (Left r) nothing_at (InSize of f)) c (outside_mark None) h
 
   -- each byte goes on with what may still come
-  pub machine_follows : (m : Machine) (so_far : List ℕ) (c : ℕ) → c < 2 ^ 8 → Fits m → Continues (MachineRest m so_far) c (byte_read machine.Refused (zone_of m) so_far c (step_of p m c))
+  pub machine_follows : (m : Machine) (so_far : List ℕ) (c : ℕ) → c < 2 ^ 8 → Fits p m → Continues (MachineRest m so_far) c (byte_read machine.Refused (zone_of m) so_far c (step_of p m c))
   machine_follows (machine.Header n) so_far c byte fits = in_header n so_far c
   machine_follows (machine.Between last functions) so_far c byte fits = between last functions so_far c fits
   machine_follows (machine.CustomSize last functions r) so_far c byte fits = custom_sizes last functions r so_far c (unsigned_push 32 r c) (counted_next demanded nothing_at (InCustoms last functions) r c byte)
@@ -577,7 +577,7 @@ module _ (demanded : Type 0) (p : Profile) where
   machine_follows (machine.Section of functions more left q) so_far c byte fits = in_section of functions more left q so_far c byte fits
   machine_follows (machine.Refused w) so_far c byte fits = next_never demanded Never c (outside_mark None) (λ s b k h. h)
 
-  pub ends : demanded → (m : Machine) (so_far : List ℕ) (k : Marks) → Fits m → MachineRest m so_far [] k → (k ≡ []) × MayEnd m
+  pub ends : demanded → (m : Machine) (so_far : List ℕ) (k : Marks) → Fits p m → MachineRest m so_far [] k → (k ≡ []) × MayEnd m
   ends s (machine.Header n) so_far k fits h = absurd (in_header_has n s k h)
   ends s (machine.Between last functions) so_far k fits h =
       let r = over_missing demanded p h.0 (11 - last) (suc last) k h.2 in
@@ -590,14 +590,14 @@ module _ (demanded : Type 0) (p : Profile) where
   ends s (machine.Refused w) so_far k fits h = absurd h
 
   -- what a module that begins with these bytes is after them
-  pub run_to : demanded → (s : MachineState) (b more : List ℕ) (k : Marks) → AreBytes b → Fits s.machine → StateRest s (b ++ more) k → (later : Marks) × (k ≡ marks p s b ++ later) × StateRest (state_after p s b) more later
+  pub run_to : demanded → (s : MachineState) (b more : List ℕ) (k : Marks) → AreBytes b → Fits p s.machine → StateRest s (b ++ more) k → (later : Marks) × (k ≡ marks p s b ++ later) × StateRest (state_after p s b) more later
   run_to d s [] more k a fits h = (k, refl, h)
   run_to d s (c ∷ b) more k a fits h =
       let g = (machine_follows s.machine s.name c a.0 fits).to d (b ++ more) k h in
       let r = run_to d (after_byte p s c) b more g.0 a.1 (byte_fits p s c a.0 fits) g.2 in
       (r.0, g.1 ∙ ap (λ y. (read_byte p s c).mark ∷ y) r.1, r.2)
 
-  pub run_from : (s : MachineState) (b more : List ℕ) (k : Marks) → AreBytes b → Fits s.machine → StateRest (state_after p s b) more k → StateRest s (b ++ more) (marks p s b ++ k)
+  pub run_from : (s : MachineState) (b more : List ℕ) (k : Marks) → AreBytes b → Fits p s.machine → StateRest (state_after p s b) more k → StateRest s (b ++ more) (marks p s b ++ k)
   run_from s [] more k a fits h = h
   run_from s (c ∷ b) more k a fits h =
       (machine_follows s.machine s.name c a.0 fits).from (b ++ more) ((read_byte p s c).mark ∷ (marks p (after_byte p s c) b ++ k))

@@ -60,12 +60,16 @@ use Rattle.wm_machine.proofs.EntryBytes.{EntryRest, run_part}
 use Rattle.wm_machine.proofs.MemberBytes.{OneOf, AfterConstant, ComponentRest}
 use Rattle.wm_machine.proofs.OpenMembers.{Comes, some_then, some_times, some_vector, some_type, some_results, some_whole, some_runs, some_one, after_constant as constant_comes}
 use Rattle.wm_machine.proofs.WholeMachine.{Later, Within, MachineRest, begin_to, begin_from, run_to, run_from}
+use Rattle.wm_machine.proofs.ExpressionSound.{SoundExpression}
+use Rattle.wm_machine.proofs.MemberSound.{StandsEntry as SoundEntry, Stands as SoundMember}
+use Rattle.wm_machine.proofs.MachineStates.{Fits}
 use Rattle.wm_machine.proofs.MachineAndSink.{begin_fits}
 use Rattle.wm_machine.proofs.Fronts.{some_later}
 use Rattle.wm_machine.proofs.OneFront.{Agree, modules_agree}
 use Rattle.wm_machine.proofs.AfterTheHeader.{IsLive, step_at}
 use Rattle.wm_machine.proofs.ItemFronts.{StandsIn, StandsAt, StandsEntry, op_stands, label_stands, param_stands, result_stands, name_stands, functions_stand, data_stand, index_stands, over_stands, runs_stand}
 use Rattle.wm_machine.proofs.MustStand.{PartsCan, PartsBegin, leaf_begins, then_begins, sized_begins, entry_begins, led_begins, type_begins, form_begins}
+use Rattle.wm_machine.proofs.CodesAtHand.{CodeExpression, CodeEntry, CodeMember, CodeMachine, run_code}
 use Rattle.wm_machine.proofs.WrongBytes.{Says, says_map, as_named, type_says, At, run_says, value_says, global_says, op_says, none_begins, no_type_begins}
 
 -- what must stand in a member must stand in its section
@@ -79,32 +83,37 @@ section_begins p W of functions more left q y v =
     then_begins W (Sized loose (suc more) L) (Sized strict (suc more) S) (Later loose p (id_of of) functions) (Later strict p (id_of of) functions)
     (sized_begins W (suc more) L S (then_begins W (ComponentRest loose p q y) (ComponentRest strict p q y) (Q loose) (Q strict) v t)) (some_later p (id_of of) functions)
 
--- such a thing must stand here, and none begins with the byte
+-- there are such things, and none begins with the byte
+pub record NoneBegins (p : Profile) (c : ℕ) (x : Wanted) : Type 0 where
+  pub some : (b : List ℕ) × spelled p x b
+  pub none : (more : List ℕ) → spelled p x (c ∷ more) → ⊥
+
+-- such a thing must stand here
 abbrev pub Here : Profile → ℕ → MarkedForm → MarkedForm → Wanted → Type 0
-Here p c L S x = PartsBegin (spelled p x) L S × ((more : List ℕ) → spelled p x (c ∷ more) → ⊥)
+Here p c L S x = PartsBegin (spelled p x) L S × NoneBegins p c x
 
 -- what is refused says so of the byte
-module _ {M : Type 0} (fail : Why → M) (Stands : M → Type 0) (apart : (m : M) (w : Why) → Stands m → m ≡ fail w → ⊥) (same : (v w : Why) → fail v ≡ fail w → v ≡ w) (F : Wanted → Type 0) (c : ℕ) where
+module _ {M : Type 0} (fail : Why → M) (Stands : M → Type 0) (apart : (m : M) (w : Why) → Stands m → m ≡ fail w → ⊥) (same : (v w : Why) → fail v ≡ fail w → v ≡ w) (b : List ℕ) (F : Wanted → Type 0) (c : ℕ) where
   abbrev pub Good : M → Type 0
-  Good m = (w : Why) → m ≡ fail w → Says F c w
+  Good m = (w : Why) → m ≡ fail w → Says b F c w
 
   pub stands_good : (m : M) → Stands m → Good m
   stands_good m s w e = absurd (apart m w s e)
 
-  pub failed_good : (v : Why) → Says F c v → Good (fail v)
-  failed_good v s w e = as_named F c v w s (same v w e)
+  pub failed_good : (v : Why) → Says b F c v → Good (fail v)
+  failed_good v s w e = as_named b F c v w s (same v w e)
 
   pub number_good : (q : Step ℕ × Partial) (more : Partial → M) (done : ℕ → M × Event) → ((s : Partial) → Stands (more s)) → ((n : ℕ) → Good (done n).0) → Good (on_number q more done fail).0
   number_good (step.More, s) more done a b = stands_good (more s) (a s)
   number_good (step.Done n, s) more done a b = b n
   number_good (step.Bad, s) more done a b = failed_good why.BadNumber tt
 
-  pub value_good : {R X : Type 0} (q : Reading R X) (more : R → M) (done : X → M × Event) → ((s : R) → Stands (more s)) → ((x : X) → Stands (done x).0) → ((w : Why) → q ≡ Bad w → Says F c w) → Good (on_value q more done fail).0
+  pub value_good : {R X : Type 0} (q : Reading R X) (more : R → M) (done : X → M × Event) → ((s : R) → Stands (more s)) → ((x : X) → Stands (done x).0) → ((w : Why) → q ≡ Bad w → Says b F c w) → Good (on_value q more done fail).0
   value_good (More s) more done a b h = stands_good (more s) (a s)
   value_good (Done x) more done a b h = stands_good (done x).0 (b x)
   value_good (Bad w) more done a b h = failed_good w (h w refl)
 
-  pub type_good : (q : Result ValType Why) (done : ValType → M × Event) → ((t : ValType) → Stands (done t).0) → ((w : Why) → q ≡ Err w → Says F c w) → Good (on_type q done fail).0
+  pub type_good : (q : Result ValType Why) (done : ValType → M × Event) → ((t : ValType) → Stands (done t).0) → ((w : Why) → q ≡ Err w → Says b F c w) → Good (on_type q done fail).0
   type_good (Ok t) done b h = stands_good (done t).0 (b t)
   type_good (Err w) done b h = failed_good w (h w refl)
 
@@ -121,24 +130,24 @@ reading_bad depth (More s) w e = absurd (cc)
 reading_bad depth (Done o) w e = absurd (in_apart (after_op depth o) w (op_stands depth o) e)
 reading_bad depth (Bad v) w e = ap Bad (in_same v w e)
 
-module _ (p : Profile) (c : ℕ) (byte : c < 2 ^ 8) where
+module _ (p : Profile) (b : List ℕ) (c : ℕ) (byte : c < 2 ^ 8) where
   abbrev InOps : (Op → Item) → InExpression → Wanted → Type 0
   InOps part e = Here p c (ExpressionRest p part e) (ExpressionRest p part e)
 
   label_says : (F : Wanted → Type 0) (depth left : ℕ) (q : Step ℕ × Partial) (w : Why)
-      → (on_answer q (λ s. (expression.Label depth left s, None)) (λ l. (after_label depth left, Some (op.Label l))) (expression_failed why.BadNumber)).0 ≡ expression.Failed w → Says F c w
+      → (on_answer q (λ s. (expression.Label depth left s, None)) (λ l. (after_label depth left, Some (op.Label l))) (expression_failed why.BadNumber)).0 ≡ expression.Failed w → Says b F c w
   label_says F depth left (step.More, s) w e = absurd (cc)
   label_says F depth left (step.Done v, s) w e = absurd (in_apart (after_label depth left) w (label_stands depth left) e)
-  label_says F depth left (step.Bad, s) w e = as_named F c why.BadNumber w tt (in_same why.BadNumber w e)
+  label_says F depth left (step.Bad, s) w e = as_named b F c why.BadNumber w tt (in_same why.BadNumber w e)
 
-  expression_says : (part : Op → Item) (e : InExpression) (w : Why) → (expression_step p e c).0 ≡ expression.Failed w → Says (InOps part e) c w
-  expression_says part (expression.Op depth r) w e =
+  expression_says : (part : Op → Item) (left : ℕ) (e : InExpression) → SoundExpression p left e → CodeExpression e b → (w : Why) → (expression_step p e c).0 ≡ expression.Failed w → Says b (InOps part e) c w
+  expression_says part left (expression.Op depth r) sound code w e =
       let bad : op_push p r c ≡ Bad w = reading_bad depth (op_push p r c) w e in
-      says_map (At p c w (op_rest p r)) (InOps part (expression.Op depth r)) c
-      (λ x v. (led_begins (spelled p x) p part depth r v, none_begins (op_rest p) (op_push p) (op_reader p) (spelled p x) r c byte w bad v)) w (op_says p c w byte r bad)
-  expression_says part (expression.Label depth left r) w e = label_says (InOps part (expression.Label depth left r)) depth left (unsigned_push 32 r c) w e
-  expression_says part expression.Over w e = as_named (InOps part expression.Over) c why.SectionEnd w tt (in_same why.SectionEnd w e)
-  expression_says part (expression.Failed v) w e = as_named (InOps part (expression.Failed v)) c why.SectionEnd w tt (in_same why.SectionEnd w e)
+      says_map b (At p b c w (op_rest p r)) (InOps part (expression.Op depth r)) c
+      (λ x v. (led_begins (spelled p x) p part depth r v, record { some = v.some; none = none_begins (op_rest p) (op_push p) (op_reader p) (spelled p x) r c byte w bad v })) w (op_says p b c w byte r sound.0 code bad)
+  expression_says part left (expression.Label depth labels r) sound code w e = label_says (InOps part (expression.Label depth labels r)) depth labels (unsigned_push 32 r c) w e
+  expression_says part left expression.Over sound code w e = as_named b (InOps part expression.Over) c why.SectionEnd w tt (in_same why.SectionEnd w e)
+  expression_says part left (expression.Failed v) sound code w e = as_named b (InOps part (expression.Failed v)) c why.SectionEnd w tt (in_same why.SectionEnd w e)
 
 -- code entries
 entry_apart : (q : InEntry) (w : Why) → StandsEntry q → q ≡ entry.Failed w → ⊥
@@ -167,29 +176,29 @@ step_stands : (of : NameKind) (n : ℕ) → StandsAt (name_step of n).0
 step_stands of zero = name_stands of
 step_stands of (suc n) = tt
 
-module _ (F : Wanted → Type 0) (c : ℕ) where
+module _ (b : List ℕ) (F : Wanted → Type 0) (c : ℕ) where
   abbrev GoodAt : InMember → Type 0
-  GoodAt = Good at.Failed StandsAt at_apart at_same F c
+  GoodAt = Good at.Failed StandsAt at_apart at_same b F c
 
   abbrev GoodEntry : InEntry → Type 0
-  GoodEntry = Good entry.Failed StandsEntry entry_apart entry_same F c
+  GoodEntry = Good entry.Failed StandsEntry entry_apart entry_same b F c
 
   stays : (m : InMember) → StandsAt m → GoodAt m
-  stays = stands_good at.Failed StandsAt at_apart at_same F c
+  stays = stands_good at.Failed StandsAt at_apart at_same b F c
 
-  fails : (v : Why) → Says F c v → GoodAt (at.Failed v)
-  fails = failed_good at.Failed StandsAt at_apart at_same F c
+  fails : (v : Why) → Says b F c v → GoodAt (at.Failed v)
+  fails = failed_good at.Failed StandsAt at_apart at_same b F c
 
   numbers : (q : Step ℕ × Partial) (more : Partial → InMember) (done : ℕ → InMember × Event) → ((s : Partial) → StandsAt (more s)) → ((n : ℕ) → GoodAt (done n).0) → GoodAt (on_number q more done at.Failed).0
-  numbers = number_good at.Failed StandsAt at_apart at_same F c
+  numbers = number_good at.Failed StandsAt at_apart at_same b F c
 
-  body_good : (e : InExpression) → ((w : Why) → e ≡ expression.Failed w → Says F c w) → GoodEntry (entry_after_op e)
-  body_good expression.Over h = stands_good entry.Failed StandsEntry entry_apart entry_same F c entry.Over tt
-  body_good (expression.Failed v) h = failed_good entry.Failed StandsEntry entry_apart entry_same F c v (h v refl)
-  body_good (expression.Op depth r) h = stands_good entry.Failed StandsEntry entry_apart entry_same F c (entry.Body (expression.Op depth r)) tt
-  body_good (expression.Label depth n r) h = stands_good entry.Failed StandsEntry entry_apart entry_same F c (entry.Body (expression.Label depth n r)) tt
+  body_good : (e : InExpression) → ((w : Why) → e ≡ expression.Failed w → Says b F c w) → GoodEntry (entry_after_op e)
+  body_good expression.Over h = stands_good entry.Failed StandsEntry entry_apart entry_same b F c entry.Over tt
+  body_good (expression.Failed v) h = failed_good entry.Failed StandsEntry entry_apart entry_same b F c v (h v refl)
+  body_good (expression.Op depth r) h = stands_good entry.Failed StandsEntry entry_apart entry_same b F c (entry.Body (expression.Op depth r)) tt
+  body_good (expression.Label depth n r) h = stands_good entry.Failed StandsEntry entry_apart entry_same b F c (entry.Body (expression.Label depth n r)) tt
 
-  constant_good : (of : ConstantOf) (e : InExpression) → ((w : Why) → e ≡ expression.Failed w → Says F c w) → GoodAt (after_constant of e)
+  constant_good : (of : ConstantOf) (e : InExpression) → ((w : Why) → e ≡ expression.Failed w → Says b F c w) → GoodAt (after_constant of e)
   constant_good of expression.Over h = stays (constant_over of) (over_stands of)
   constant_good of (expression.Failed v) h = fails v (h v refl)
   constant_good of (expression.Op depth r) h = stays (at.Constant of (expression.Op depth r)) tt
@@ -207,9 +216,9 @@ module _ (F : Wanted → Type 0) (c : ℕ) where
   framed_good (suc n) (entry.Body x) h = stays (at.Entry n (entry.Body x)) tt
 
   fresh_good : (n : ℕ) → GoodAt (member_in_entry n (entry.RunCount fresh))
-  fresh_good n = framed_good n (entry.RunCount fresh) (stands_good entry.Failed StandsEntry entry_apart entry_same F c (entry.RunCount fresh) tt)
+  fresh_good n = framed_good n (entry.RunCount fresh) (stands_good entry.Failed StandsEntry entry_apart entry_same b F c (entry.RunCount fresh) tt)
 
-module _ (p : Profile) (c : ℕ) (byte : c < 2 ^ 8) where
+module _ (p : Profile) (b : List ℕ) (c : ℕ) (byte : c < 2 ^ 8) where
   abbrev InEntries : InEntry → Wanted → Type 0
   InEntries q = Here p c (EntryRest loose p q) (EntryRest strict p q)
 
@@ -220,97 +229,97 @@ module _ (p : Profile) (c : ℕ) (byte : c < 2 ^ 8) where
   then_here : (L S Q R : MarkedForm) → Comes Q → (x : Wanted) → Here p c L S x → Here p c (Then L Q) (Then S R) x
   then_here L S Q R q x h = (then_begins (spelled p x) L S Q R h.0 q, h.1)
 
-  run_here : (r : InRun) (w : Why) → run_push p r c ≡ Bad w → (x : Wanted) → At p c w (run_rest p r) x → Here p c (Leaf (run_rest p r) run_part) (Leaf (run_rest p r) run_part) x
-  run_here r w e x v = (leaf_begins (spelled p x) (run_rest p r) run_part v, none_begins (run_rest p) (run_push p) (run_reader p) (spelled p x) r c byte w e v)
+  run_here : (r : InRun) (w : Why) → run_push p r c ≡ Bad w → (x : Wanted) → At p b c w (run_rest p r) x → Here p c (Leaf (run_rest p r) run_part) (Leaf (run_rest p r) run_part) x
+  run_here r w e x v = (leaf_begins (spelled p x) (run_rest p r) run_part v, record { some = v.some; none = none_begins (run_rest p) (run_push p) (run_reader p) (spelled p x) r c byte w e v })
 
-  entry_says : (q : InEntry) → GoodEntry (InEntries q) c (entry_step p q c).0
-  entry_says (entry.RunCount r) =
-      number_good entry.Failed StandsEntry entry_apart entry_same (InEntries (entry.RunCount r)) c (unsigned_push 32 r c) entry.RunCount (λ n. (runs_or_body n, event.Nothing)) (λ s. tt)
-      (λ n. stands_good entry.Failed StandsEntry entry_apart entry_same (InEntries (entry.RunCount r)) c (runs_or_body n) (runs_stand n))
-  entry_says (entry.Run more r) =
+  entry_says : (left : ℕ) (q : InEntry) → SoundEntry p left q → CodeEntry q b → GoodEntry b (InEntries q) c (entry_step p q c).0
+  entry_says left (entry.RunCount r) sound code =
+      number_good entry.Failed StandsEntry entry_apart entry_same b (InEntries (entry.RunCount r)) c (unsigned_push 32 r c) entry.RunCount (λ n. (runs_or_body n, event.Nothing)) (λ s. tt)
+      (λ n. stands_good entry.Failed StandsEntry entry_apart entry_same b (InEntries (entry.RunCount r)) c (runs_or_body n) (runs_stand n))
+  entry_says left (entry.Run more r) sound code =
       let L : MarkedForm = Leaf (run_rest p r) run_part in
       let Q : MarkedForm = Then (Times more (Run p)) (Expression p body_op) in
-      value_good entry.Failed StandsEntry entry_apart entry_same (InEntries (entry.Run more r)) c (run_push p r c) (λ s. entry.Run more s) (λ v. with_item_given (runs_or_body more) (plain.Locals v.0 v.1)) (λ s. tt) (λ v. runs_stand more)
-      (λ w e. says_map (At p c w (run_rest p r)) (InEntries (entry.Run more r)) c (λ x v. then_here L L Q Q (some_runs p more) x (run_here r w e x v)) w (run_says p c w r e))
-  entry_says (entry.Body e) = body_good (InEntries (entry.Body e)) c (expression_step p e c).0 (expression_says p c byte body_op e)
-  entry_says entry.Over = failed_good entry.Failed StandsEntry entry_apart entry_same (InEntries entry.Over) c why.BodyEnd tt
-  entry_says (entry.Failed v) = failed_good entry.Failed StandsEntry entry_apart entry_same (InEntries (entry.Failed v)) c why.BodyEnd tt
+      value_good entry.Failed StandsEntry entry_apart entry_same b (InEntries (entry.Run more r)) c (run_push p r c) (λ s. entry.Run more s) (λ v. with_item_given (runs_or_body more) (plain.Locals v.0 v.1)) (λ s. tt) (λ v. runs_stand more)
+      (λ w e. says_map b (At p b c w (run_rest p r)) (InEntries (entry.Run more r)) c (λ x v. then_here L L Q Q (some_runs p more) x (run_here r w e x v)) w (run_says p b c w r e))
+  entry_says left (entry.Body e) sound code = body_good b (InEntries (entry.Body e)) c (expression_step p e c).0 (expression_says p b c byte body_op left e sound.1 code)
+  entry_says left entry.Over sound code = failed_good entry.Failed StandsEntry entry_apart entry_same b (InEntries entry.Over) c why.BodyEnd tt
+  entry_says left (entry.Failed v) sound code = failed_good entry.Failed StandsEntry entry_apart entry_same b (InEntries (entry.Failed v)) c why.BodyEnd tt
 
   -- members
   type_here : (part : ValType → Item) (w : Why) → value_type_of p c ≡ Err w → Here p c (ValueType p part) (ValueType p part) a_value_type
-  type_here part w e = (leaf_begins (spelled p a_value_type) (Those (HasType p) SpellsValType) part (type_begins p), no_type_begins p c w e)
+  type_here part w e = (leaf_begins (spelled p a_value_type) (Those (HasType p) SpellsValType) part (type_begins p), record { some = (type_begins p).some; none = no_type_begins p c w e })
 
-  types_say : (part : ValType → Item) (F : Wanted → Type 0) → (Here p c (ValueType p part) (ValueType p part) a_value_type → F a_value_type) → (w : Why) → value_type_of p c ≡ Err w → Says F c w
-  types_say part F f w e = type_says F c w p (f (type_here part w e)) e
+  types_say : (part : ValType → Item) (F : Wanted → Type 0) → (Here p c (ValueType p part) (ValueType p part) a_value_type → F a_value_type) → (w : Why) → value_type_of p c ≡ Err w → Says b F c w
+  types_say part F f w e = type_says b F c w p (f (type_here part w e)) e
 
-  form_says : GoodAt (InMembers at.TypeForm []) c (member_step p at.TypeForm c).0
+  form_says : GoodAt b (InMembers at.TypeForm []) c (member_step p at.TypeForm c).0
   form_says =
       let T : MarkedForm = MarkedByte 0x60 (Some new_type) in
       let Q : MarkedForm = Then (Vector (ValueType p param)) (ResultTypes p) in
       let q : Comes Q = some_then (Vector (ValueType p param)) (ResultTypes p) (some_vector (ValueType p param) (some_type p param)) (some_results p) in
-      cond_both (nat_eq c 0x60) _ _ (λ (m : InMember × Event). GoodAt (InMembers at.TypeForm []) c m.0) (λ _. stays (InMembers at.TypeForm []) c (at.ParamCount fresh) tt)
-      (λ a. fails (InMembers at.TypeForm []) c why.BadByte (a_function_type, then_here T T Q Q q a_function_type (form_begins p (Some new_type), λ more e. eqb-false c 0x60 a (head_same c 0x60 more [] e)), tt))
+      cond_both (nat_eq c 0x60) _ _ (λ (m : InMember × Event). GoodAt b (InMembers at.TypeForm []) c m.0) (λ _. stays b (InMembers at.TypeForm []) c (at.ParamCount fresh) tt)
+      (λ a. fails b (InMembers at.TypeForm []) c why.BadByte (a_function_type, then_here T T Q Q q a_function_type (form_begins p (Some new_type), record { some = (0x60 ∷ [], refl); none = λ more e. eqb-false c 0x60 a (head_same c 0x60 more [] e) }), tt))
 
-  member_says : (q : InMember) (y : List ℕ) → GoodAt (InMembers q y) c (member_step p q c).0
-  member_says at.TypeForm y = form_says
-  member_says (at.ParamCount r) y = let F = InMembers (at.ParamCount r) y in numbers F c (unsigned_push 32 r c) at.ParamCount (λ n. (after_param n, event.Nothing)) (λ s. tt) (λ n. stays F c (after_param n) (param_stands n))
-  member_says (at.Param more) y =
+  member_says : (left : ℕ) (q : InMember) (y : List ℕ) → SoundMember p left q → CodeMember q b → GoodAt b (InMembers q y) c (member_step p q c).0
+  member_says left at.TypeForm y sound code = form_says
+  member_says left (at.ParamCount r) y sound code = let F = InMembers (at.ParamCount r) y in numbers b F c (unsigned_push 32 r c) at.ParamCount (λ n. (after_param n, event.Nothing)) (λ s. tt) (λ n. stays b F c (after_param n) (param_stands n))
+  member_says left (at.Param more) y sound code =
       let T : MarkedForm = ValueType p param in
       let F = InMembers (at.Param more) y in
-      type_good at.Failed StandsAt at_apart at_same F c (value_type_of p c) (λ t. with_item_given (after_param more) (plain.Param t)) (λ t. param_stands more)
+      type_good at.Failed StandsAt at_apart at_same b F c (value_type_of p c) (λ t. with_item_given (after_param more) (plain.Param t)) (λ t. param_stands more)
       (types_say param F (λ h. then_here (Times (suc more) T) (Times (suc more) T) (ResultTypes p) (ResultTypes p) (some_results p) a_value_type (then_here T T (Times more T) (Times more T) (some_times more T (some_type p param)) a_value_type h)))
-  member_says (at.ResultCount r) y =
+  member_says left (at.ResultCount r) y sound code =
       let F = InMembers (at.ResultCount r) y in
-      numbers F c (unsigned_push 32 r c) at.ResultCount (λ n. with_item_given (after_result n) (plain.ResultCount n)) (λ s. tt) (λ n. stays F c (after_result n) (result_stands n))
-  member_says (at.ResultType more) y =
+      numbers b F c (unsigned_push 32 r c) at.ResultCount (λ n. with_item_given (after_result n) (plain.ResultCount n)) (λ s. tt) (λ n. stays b F c (after_result n) (result_stands n))
+  member_says left (at.ResultType more) y sound code =
       let T : MarkedForm = ValueType p one_result in
       let F = InMembers (at.ResultType more) y in
-      type_good at.Failed StandsAt at_apart at_same F c (value_type_of p c) (λ t. with_item_given (after_result more) (plain.OneResult t)) (λ t. result_stands more)
+      type_good at.Failed StandsAt at_apart at_same b F c (value_type_of p c) (λ t. with_item_given (after_result more) (plain.OneResult t)) (λ t. result_stands more)
       (types_say one_result F (λ h. then_here T T (Times more T) (Times more T) (some_times more T (some_type p one_result)) a_value_type h))
-  member_says (at.NameLength of r) y = let F = InMembers (at.NameLength of r) y in numbers F c (unsigned_push 32 r c) (λ s. at.NameLength of s) (after_length of) (λ s. tt) (λ n. stays F c (after_length of n).0 (length_stands of n))
-  member_says (at.Name of more) y = stays (InMembers (at.Name of more) y) c (name_step of more).0 (step_stands of more)
-  member_says (at.Value v) y =
+  member_says left (at.NameLength of r) y sound code = let F = InMembers (at.NameLength of r) y in numbers b F c (unsigned_push 32 r c) (λ s. at.NameLength of s) (after_length of) (λ s. tt) (λ n. stays b F c (after_length of n).0 (length_stands of n))
+  member_says left (at.Name of more) y sound code = stays b (InMembers (at.Name of more) y) c (name_step of more).0 (step_stands of more)
+  member_says left (at.Value v) y sound code =
       let F = InMembers (at.Value v) y in
-      value_good at.Failed StandsAt at_apart at_same F c (value_push p v c) at.Value (λ q. with_item_given at.Over q) (λ s. tt) (λ x. tt)
-      (λ w e. says_map (At p c w (value_rest p v)) F c (λ x s. (leaf_begins (spelled p x) (value_rest p v) plain_item s, none_begins (value_rest p) (value_push p) (value_reader p) (spelled p x) v c byte w e s)) w (value_says p c w v e))
-  member_says (at.Index of r) y =
+      value_good at.Failed StandsAt at_apart at_same b F c (value_push p v c) at.Value (λ q. with_item_given at.Over q) (λ s. tt) (λ x. tt)
+      (λ w e. says_map b (At p b c w (value_rest p v)) F c (λ x s. (leaf_begins (spelled p x) (value_rest p v) plain_item s, record { some = s.some; none = none_begins (value_rest p) (value_push p) (value_reader p) (spelled p x) v c byte w e s })) w (value_says p b c w v e))
+  member_says left (at.Index of r) y sound code =
       let F = InMembers (at.Index of r) y in
-      numbers F c (unsigned_push 32 r c) (λ s. at.Index of s) (λ n. with_item_given (after_index of) (index_item of n)) (λ s. tt) (λ n. stays F c (after_index of) (index_stands of))
-  member_says (at.GlobalType g) y =
+      numbers b F c (unsigned_push 32 r c) (λ s. at.Index of s) (λ n. with_item_given (after_index of) (index_item of n)) (λ s. tt) (λ n. stays b F c (after_index of) (index_stands of))
+  member_says left (at.GlobalType g) y sound code =
       let L : MarkedForm = Leaf (global_rest p g) global_part in
       let Q : MarkedForm = Expression p const_op in
       let F = InMembers (at.GlobalType g) y in
-      value_good at.Failed StandsAt at_apart at_same F c (global_type_push p g c) at.GlobalType (λ t. with_item_given (at.Constant constant.Global start) (plain.Global t)) (λ s. tt) (λ x. tt)
-      (λ w e. says_map (At p c w (global_rest p g)) F c
-      (λ x s. then_here L L Q Q (some_whole p const_op) x (leaf_begins (spelled p x) (global_rest p g) global_part s, none_begins (global_rest p) (global_type_push p) (global_reader p) (spelled p x) g c byte w e s)) w (global_says p c w g e))
-  member_says (at.Constant of e) y =
+      value_good at.Failed StandsAt at_apart at_same b F c (global_type_push p g c) at.GlobalType (λ t. with_item_given (at.Constant constant.Global start) (plain.Global t)) (λ s. tt) (λ x. tt)
+      (λ w e. says_map b (At p b c w (global_rest p g)) F c
+      (λ x s. then_here L L Q Q (some_whole p const_op) x (leaf_begins (spelled p x) (global_rest p g) global_part s, record { some = s.some; none = none_begins (global_rest p) (global_type_push p) (global_reader p) (spelled p x) g c byte w e s })) w (global_says p b c w g e))
+  member_says left (at.Constant of e) y sound code =
       let L : MarkedForm = ExpressionRest p const_op e in
       let F = InMembers (at.Constant of e) y in
-      constant_good F c of (expression_step p e c).0 (λ w i.
-      says_map (Here p c L L) F c (λ x h. then_here L L (AfterConstant loose p of) (AfterConstant strict p of) (constant_comes p of) x h) w (expression_says p c byte const_op e w i))
-  member_says (at.Length of r) y =
+      constant_good b F c of (expression_step p e c).0 (λ w i.
+      says_map b (Here p c L L) F c (λ x h. then_here L L (AfterConstant loose p of) (AfterConstant strict p of) (constant_comes p of) x h) w (expression_says p b c byte const_op left e sound.1 code w i))
+  member_says left (at.Length of r) y sound code =
       let F = InMembers (at.Length of r) y in
-      numbers F c (unsigned_push 32 r c) (λ s. at.Length of s) (λ n. (list_or_over of n, event.Nothing)) (λ s. tt) (λ n. stays F c (list_or_over of n) (list_stands of n))
-  member_says (at.Data more) y = stays (InMembers (at.Data more) y) c (data_or_over more) (data_stand more)
-  member_says (at.EntrySize r) y =
+      numbers b F c (unsigned_push 32 r c) (λ s. at.Length of s) (λ n. (list_or_over of n, event.Nothing)) (λ s. tt) (λ n. stays b F c (list_or_over of n) (list_stands of n))
+  member_says left (at.Data more) y sound code = stays b (InMembers (at.Data more) y) c (data_or_over more) (data_stand more)
+  member_says left (at.EntrySize r) y sound code =
       let F = InMembers (at.EntrySize r) y in
-      numbers F c (unsigned_push 32 r c) at.EntrySize (λ n. with_item_given (member_in_entry n (entry.RunCount fresh)) plain.Body) (λ s. tt) (fresh_good F c)
-  member_says (at.Entry more q) y =
+      numbers b F c (unsigned_push 32 r c) at.EntrySize (λ n. with_item_given (member_in_entry n (entry.RunCount fresh)) plain.Body) (λ s. tt) (fresh_good b F c)
+  member_says left (at.Entry more q) y sound code =
       let L : MarkedForm = EntryRest loose p q in
       let S : MarkedForm = EntryRest strict p q in
       let F = InMembers (at.Entry more q) y in
-      framed_good F c more (entry_step p q c).0 (λ w e.
-      says_map (InEntries q) F c (λ x h. (sized_begins (spelled p x) (suc more) (Entry L) (Entry S) (entry_begins (spelled p x) L S h.0), h.1)) w (entry_says q w e))
-  member_says at.Over y = fails (InMembers at.Over y) c why.SectionEnd tt
-  member_says (at.Failed v) y = fails (InMembers (at.Failed v) y) c why.SectionEnd tt
+      framed_good b F c more (entry_step p q c).0 (λ w e.
+      says_map b (InEntries q) F c (λ x h. (sized_begins (spelled p x) (suc more) (Entry L) (Entry S) (entry_begins (spelled p x) L S h.0), h.1)) w (entry_says (suc more) q sound.1 code w e))
+  member_says left at.Over y sound code = fails b (InMembers at.Over y) c why.SectionEnd tt
+  member_says left (at.Failed v) y sound code = fails b (InMembers (at.Failed v) y) c why.SectionEnd tt
 
   -- the machine
   abbrev pub InMachine : Machine → List ℕ → Wanted → Type 0
   InMachine m y = Here p c (MachineRest loose p m y) (MachineRest strict p m y)
 
-  section_says : (of : SectionKind) (functions more left : ℕ) (q : InMember) (y : List ℕ) (w : Why) → (member_step p q c).0 ≡ at.Failed w → Says (InMachine (machine.Section of functions more left q) y) c w
-  section_says of functions more left q y w e =
-      says_map (InMembers q y) (InMachine (machine.Section of functions more left q) y) c (λ x h. (section_begins p (spelled p x) of functions more left q y h.0, h.1)) w (member_says q y w e)
+  section_says : (of : SectionKind) (functions more left : ℕ) (q : InMember) (y : List ℕ) → SoundMember p (suc more) q → CodeMember q b → (w : Why) → (member_step p q c).0 ≡ at.Failed w → Says b (InMachine (machine.Section of functions more left q) y) c w
+  section_says of functions more left q y sound code w e =
+      says_map b (InMembers q y) (InMachine (machine.Section of functions more left q) y) c (λ x h. (section_begins p (spelled p x) of functions more left q y h.0, h.1)) w (member_says (suc more) q y sound code w e)
 
 -- elsewhere it is refused by other names
 custom_says : (S : Why → Type 0) → S why.BadNumber → S why.SectionEnd → (c : ℕ) (q : InCustom) (w : Why) → (custom_step q c).0 ≡ custom.Failed w → S w
@@ -383,16 +392,16 @@ module _ (p : Profile) (b : List ℕ) (bytes : AreBytes b) where
 
   -- such a thing must stand after these bytes, and none begins with the byte
   abbrev pub InInput : ℕ → Wanted → Type 0
-  InInput c x = MustStand p (spelled p x) b × ((more : List ℕ) → spelled p x (c ∷ more) → ⊥)
+  InInput c x = MustStand p (spelled p x) b × NoneBegins p c x
 
-  pub byte_says : (c : ℕ) → c < 2 ^ 8 → (m : Machine) → m ≡ Now.machine → (IsRefused m → ⊥) → (w : Why) → (step_of p m c).0 ≡ machine.Refused w → Says (InInput c) c w
-  byte_says c byte (machine.Header n) is live = header_says (Says (InInput c) c) tt tt n c
-  byte_says c byte m is live =
-      let S : Why → Type 0 = Says (InInput c) c in
+  pub byte_says : (c : ℕ) → c < 2 ^ 8 → (m : Machine) → m ≡ Now.machine → Fits p m → (IsRefused m → ⊥) → (w : Why) → (step_of p m c).0 ≡ machine.Refused w → Says b (InInput c) c w
+  byte_says c byte (machine.Header n) is fits live = header_says (Says b (InInput c) c) tt tt n c
+  byte_says c byte m is fits live =
+      let S : Why → Type 0 = Says b (InInput c) c in
       step_at (ByName S) (lives S) (by_name S why.SectionEnd tt) (by_name S why.BadNumber tt) (by_name S why.SectionId tt) (by_name S why.SectionOrder tt) (by_name S why.CodeCount tt) p m c
       (λ i. i) (λ w e. absurd (live (subst IsRefused (sym e) tt)))
       (λ q w e. by_name S w (custom_says S tt tt c q w e))
       (λ of functions more left q w i e. by_name S w
-      (says_map (InMachine p c byte (machine.Section of functions more left q) Now.name) (InInput c) c
+      (says_map b (InMachine p b c byte (machine.Section of functions more left q) Now.name) (InInput c) c
       (λ x h. (must_stand (spelled p x) (subst (λ z. PartsBegin (spelled p x) (MachineRest loose p z Now.name) (MachineRest strict p z Now.name)) (sym i ∙ is) h.0), h.1)) w
-      (section_says p c byte of functions more left q Now.name w e)))
+      (section_says p b c byte of functions more left q Now.name (let f = subst (Fits p) i fits in f.2.1) (subst (λ z. CodeMachine z b) (sym is ∙ i) (run_code p state_at_start [] b tt)) w e)))

@@ -13,7 +13,8 @@ use Rattle.wm_syntax.specs.declared.profile.Profile.{Profile}
 use Rattle.wm_syntax.specs.Spelling.{Form, Exactly, Each, ◌▸◌}
 use Rattle.wm_syntax.specs.Types.{Signature, SpellsU32, SpellsList, SpellsBytes, SpellsSignature}
 use Rattle.wm_syntax.specs.Types.{SpellsLimits, SpellsTableType, SpellsGlobalType}
-use Rattle.wm_syntax.specs.Instructions.{HasOps, SpellsOp}
+use Rattle.wm_syntax.specs.Instructions.{HasOps}
+use Rattle.wm_syntax.specs.Encodings.{SpellsOp}
 use Rattle.wm_syntax.specs.Modules.{Import, Function, GlobalDef, Export, Element, Segment, Module, constant}
 use Rattle.wm_syntax.specs.Profiles.{HasDesc, HasSignature, IsOpOf}
 use Rattle.wm_machine.specs.Sections.{Sized, Those, ListSection, StartSection, Customs, SpellsImport}
@@ -103,7 +104,7 @@ flat_items v =
 
 -- an expression of the profile: the bytes of its ops, one after another (Core spec 5.4.6)
 abbrev pub SpellsOps : Profile → List Op → Form ℕ
-SpellsOps p ops b = IsExpression ops × AllByRecursion (IsOpOf p) ops × Each SpellsOp ops b
+SpellsOps p ops b = IsExpression ops × AllByRecursion (IsOpOf p) ops × Each (SpellsOp p) ops b
 
 -- the profile has the type of an imported global (Core spec 5.5.5)
 abbrev pub HasImport : Profile → Import → Type 0

@@ -14,7 +14,8 @@ use Rattle.wm_syntax.specs.declared.types.GlobalType.{GlobalType}
 use Rattle.wm_syntax.specs.declared.profile.Profile.{Profile}
 use Rattle.wm_syntax.specs.Spelling.{Byte as OneByte, ◌▸◌}
 use Rattle.wm_syntax.specs.Types.{SpellsU32, SpellsValType, SpellsLimits, SpellsTableType, SpellsGlobalType}
-use Rattle.wm_syntax.specs.Instructions.{SpellsOp, openings, endings}
+use Rattle.wm_syntax.specs.Instructions.{openings, endings}
+use Rattle.wm_syntax.specs.Encodings.{SpellsOp}
 use Rattle.wm_syntax.specs.Profiles.{HasDesc, HasType, IsOpOf}
 use Rattle.wm_machine.specs.Sections.{Those, SpellsDesc, SpellsRun, kind_byte, header}
 use Rattle.wm_machine.specs.Items.{Item, new_type, param, result_count, one_result, import_module, import_name}
@@ -72,14 +73,15 @@ pub record IsExpression (ops : List Op) : Type 0 where
   pub first : (front back : List Op) → ops ≡ front ++ back → (back ≡ []) ⊎ (endings front ≤ openings front)
 
 -- the bytes of the ops in order; each op is complete at its last byte
-abbrev pub EachOp : (Op → Item) → List Op → MarkedForm
-EachOp part [] = Empty
-EachOp part (o ∷ ops) = Then (λ b k. SpellsOp o b × (k ≡ marks_ending (Some (part o)) b)) (EachOp part ops)
+abbrev pub EachOp : Profile → (Op → Item) → List Op → MarkedForm
+EachOp p part [] = Empty
+EachOp p part (o ∷ ops) =
+    Then (λ b k. SpellsOp p o b × (k ≡ marks_ending (Some (part o)) b)) (EachOp p part ops)
 
 -- an expression whose ops are all of the profile (Core spec 5.4.6)
 abbrev pub Expression : Profile → (Op → Item) → MarkedForm
 Expression p part b k = (ops : List Op) × IsExpression ops × AllByRecursion (IsOpOf p) ops
-    × EachOp part ops b k
+    × EachOp p part ops b k
 
 -- the profile has the value type of the global
 abbrev pub HasGlobalType : Profile → GlobalType → Type 0

@@ -11,9 +11,10 @@ use Rattle.wm_syntax.specs.declared.modules.ExportKind.{ExportKind}
 use Rattle.wm_syntax.specs.Spelling.{Form, Byte, Exactly, Each, ◌▸◌, ◌∣◌}
 use Rattle.wm_syntax.specs.Leb128.{Unsigned, Signed}
 use Rattle.wm_syntax.specs.Types.{SpellsU32, SpellsName, SpellsValType, SpellsBlockType}
-use Rattle.wm_syntax.specs.Instructions.{SpellsOp}
-use Rattle.wm_syntax.specs.OpClasses.{first_byte, is_float}
-use Rattle.wm_syntax.specs.Profiles.{HasBlockType, HasType, IsOpOf}
+use Rattle.wm_syntax.specs.Encodings.{SpellsOp}
+use Rattle.wm_syntax.specs.OpClasses.{code, is_float}
+use Rattle.wm_syntax.specs.Profiles.{has, HasBlockType, HasType, IsOpOf}
+use Rattle.wm_syntax.specs.declared.profile.Feature.TheVariants.{LongIndex}
 use Rattle.wm_syntax.specs.declared.profile.Profile.{Profile}
 use Rattle.wm_machine.specs.declared.refusal.Refusal.{Refusal}
 use Rattle.wm_machine.specs.Items.{Item, Mark, Marks, body_op, items_at}
@@ -97,6 +98,7 @@ EndsInside used rest = (rest ≡ []) × (EndsInHeader used ⊎ EndsInSection use
 -- The things that may be required at an offset, where a single byte can be wrong.
 pub data Wanted : Type 0 where
   an_instruction : Wanted
+  a_code : List ℕ → Wanted
   a_value_type : Wanted
   a_block_type : Wanted
   a_function_type : Wanted
@@ -105,13 +107,18 @@ pub data Wanted : Type 0 where
   a_kind : Wanted
   a_zero : Wanted
 
--- The bytes of a required thing. An instruction of the profile, an `else` or an `end` (Core spec 5.4, 5.4.6) has all
--- its bytes here, as has a value type (5.3.1) or block type (5.3.2) of the profile. The others have one byte here: the
--- first of a function type (5.3.3) or table type (5.3.6); the flag of limits (5.3.4) or of mutability (5.3.7); the
--- kind of an import (5.5.5) or an export (5.5.10); the 00 that ends some instructions (5.4.1, 5.4.4).
+-- an instruction of the profile, an `else` or an `end` (Core spec 5.4, 5.4.6)
+abbrev pub AnInstruction : Profile → Form ℕ
+AnInstruction p b = (o : Op) × (c : ℕ) × (code o ≡ Some c) × IsOpOf p o × SpellsOp p o b
+
+-- The bytes of a required thing. An instruction has all its bytes here, or those that come after the bytes `begun`
+-- (`a_code`). A value type (Core spec 5.3.1) and a block type (5.3.2) of the profile have all their bytes too. The
+-- others have one byte here: the first of a function type (5.3.3) or table type (5.3.6); the flag of limits (5.3.4) or
+-- of mutability (5.3.7); the kind of an import (5.5.5) or an export (5.5.10); the 00 that ends some instructions
+-- (5.4.1, 5.4.4), or comes before such a 00 (WebAssembly 2.0, 5.4.6).
 abbrev pub spelled : Profile → Wanted → Form ℕ
-spelled p an_instruction b =
-    (o : Op) × (c : ℕ) × (first_byte o ≡ Some c) × IsOpOf p o × SpellsOp o b
+spelled p an_instruction b = AnInstruction p b
+spelled p (a_code begun) b = AnInstruction p (begun ++ b)
 spelled p a_value_type b = (t : ValType) × Those (HasType p) SpellsValType t b
 spelled p a_block_type b = (t : Option ValType) × Those (HasBlockType p) SpellsBlockType t b
 spelled p a_function_type b = Byte 0x60 b
@@ -128,40 +135,52 @@ pub record MustStand (p : Profile) (IsThere : Form ℕ) (before : List ℕ) : Ty
   pub must : (more : List ℕ) (k : Marks) → Items p (before ++ more) k
       → (b rest : List ℕ) × (more ≡ b ++ rest) × IsThere b
 
--- The last byte is wrong: a thing is required there, no spelling of it begins with the byte, and `IsWrong` holds.
-pub record WrongByte (p : Profile) (IsWrong : Wanted → ℕ → Type 0) (used : List ℕ) : Type 0 where
+-- The last byte is wrong: a thing is required there, which has a spelling. None begins with the byte, and `IsWrong`
+-- holds of the bytes before it, the thing and the byte.
+pub record WrongByte (p : Profile) (IsWrong : List ℕ → Wanted → ℕ → Type 0) (used : List ℕ) : Type 0 where
   pub before : List ℕ
   pub byte : ℕ
   pub whole : used ≡ before ++ byte ∷ []
   pub wanted : Wanted
+  pub some : (b : List ℕ) × spelled p wanted b
   pub place : MustStand p (spelled p wanted) before
   pub none : (more : List ℕ) → spelled p wanted (byte ∷ more) → ⊥
-  pub wrong : IsWrong wanted byte
+  pub wrong : IsWrong before wanted byte
 
 -- the byte of a float type (Core spec 5.3.1)
 abbrev pub IsFloatType : ℕ → Type 0
 IsFloatType c = (c ≡ 0x7D) ⊎ (c ≡ 0x7C)
 
--- BadOpcode: an instruction is required. The byte begins none of the profile, and none on floats. Core spec 5.4.
-abbrev pub IsNoInstruction : Wanted → ℕ → Type 0
-IsNoInstruction an_instruction c = IsTrue (is_float c) → ⊥
-IsNoInstruction _ c = ⊥
+-- The bytes `before` end with `begun`: the byte FC, and perhaps first bytes of a number, which continues
+-- (WebAssembly 2.0, 5.4).
+abbrev pub EndsWithCode : List ℕ → List ℕ → Type 0
+EndsWithCode before begun = (front number : List ℕ) × (before ≡ front ++ begun) × (begun ≡ 0xFC ∷ number)
+    × AllByRecursion (λ c. 0x80 ≤ c) number
+
+-- BadOpcode, first case: an instruction is required. The byte begins none of the profile, and none on floats (Core spec
+-- 5.4). Second case: FC and perhaps first bytes of a number have come, and an instruction that begins with these is
+-- required. None of the profile has the byte next (WebAssembly 2.0, 5.4).
+abbrev pub IsNoInstruction : List ℕ → Wanted → ℕ → Type 0
+IsNoInstruction before an_instruction c = IsTrue (is_float c) → ⊥
+IsNoInstruction before (a_code begun) c = EndsWithCode before begun
+IsNoInstruction before _ c = ⊥
 
 -- Float: the byte begins an instruction on floats, or is a float type. The profile lacks it, since nothing required
 -- there begins with the byte. Core spec 5.3.1, 5.3.2, 5.4.
-abbrev pub BeginsFloat : Wanted → ℕ → Type 0
-BeginsFloat an_instruction c = IsTrue (is_float c)
-BeginsFloat a_value_type c = IsFloatType c
-BeginsFloat a_block_type c = IsFloatType c
-BeginsFloat _ c = ⊥
+abbrev pub BeginsFloat : List ℕ → Wanted → ℕ → Type 0
+BeginsFloat before an_instruction c = IsTrue (is_float c)
+BeginsFloat before a_value_type c = IsFloatType c
+BeginsFloat before a_block_type c = IsFloatType c
+BeginsFloat before _ c = ⊥
 
--- BadByte: something other than an instruction is required, and the byte begins nothing of it. If a value or block type
--- is required, the byte is no float type. The sections are those of `spelled`.
-abbrev pub IsOtherByte : Wanted → ℕ → Type 0
-IsOtherByte an_instruction c = ⊥
-IsOtherByte a_value_type c = IsFloatType c → ⊥
-IsOtherByte a_block_type c = IsFloatType c → ⊥
-IsOtherByte _ c = Unit {0}
+-- BadByte: something other than an instruction or the rest of one is required, and the byte begins nothing of it. If a
+-- value or block type is required, the byte is no float type. The sections are those of `spelled`.
+abbrev pub IsOtherByte : List ℕ → Wanted → ℕ → Type 0
+IsOtherByte before an_instruction c = ⊥
+IsOtherByte before (a_code begun) c = ⊥
+IsOtherByte before a_value_type c = IsFloatType c → ⊥
+IsOtherByte before a_block_type c = IsFloatType c → ⊥
+IsOtherByte before _ c = Unit {0}
 
 -- a name (Core spec 5.2.4)
 abbrev pub IsName : Form ℕ
@@ -267,21 +286,24 @@ pub record OtherBodySize (p : Profile) (used : List ℕ) : Type 0 where
   pub wrong : ((length contents ≡ bytes) × BeginsEntry p contents)
       ⊎ ((length contents < bytes) × IsEntry p contents)
 
--- the kinds of integers in a module: u32, s32 and s64 (Core spec 5.2.2)
+-- The kinds of integers in a module: u32, s32 and s64 (Core spec 5.2.2). The table index of a `call_indirect` is a u32
+-- that must be 0, and an integer only if the profile has `LongIndex` (WebAssembly 2.0, 5.4.1).
 pub data Integer : Type 0 where
   u32 : Integer
+  u32_zero : Integer
   s32 : Integer
   s64 : Integer
 
 -- the bytes spell an integer of this kind (Core spec 5.2.2)
-abbrev pub spells : Integer → Form ℕ
-spells u32 b = (n : ℕ) × Unsigned 32 n b
-spells s32 b = (z : ℤ) × Signed 32 z b
-spells s64 b = (z : ℤ) × Signed 64 z b
+abbrev pub spells : Profile → Integer → Form ℕ
+spells p u32 b = (n : ℕ) × Unsigned 32 n b
+spells p u32_zero b = IsTrue (has p LongIndex) × Unsigned 32 0 b
+spells p s32 b = (z : ℤ) × Signed 32 z b
+spells p s64 b = (z : ℤ) × Signed 64 z b
 
 -- the rest, at least one byte, of an integer that begins with the bytes `begun`
-abbrev pub goes_on : Integer → List ℕ → Form ℕ
-goes_on number begun b = (b ≢ []) × spells number (begun ++ b)
+abbrev pub goes_on : Profile → Integer → List ℕ → Form ℕ
+goes_on p number begun b = (b ≢ []) × spells p number (begun ++ b)
 
 -- BadNumber: before the last byte an integer has begun, it can continue, and its rest is required. No integer of this
 -- kind continues with the last byte. Core spec 5.2.2.
@@ -292,9 +314,9 @@ pub record WrongNumber (p : Profile) (used : List ℕ) : Type 0 where
   pub number : Integer
   pub whole : used ≡ (before ++ begun) ++ byte ∷ []
   pub front : CanGoOn p (before ++ begun)
-  pub some : (b : List ℕ) × goes_on number begun b
-  pub place : MustStand p (goes_on number begun) (before ++ begun)
-  pub none : (more : List ℕ) → spells number (begun ++ byte ∷ more) → ⊥
+  pub some : (b : List ℕ) × goes_on p number begun b
+  pub place : MustStand p (goes_on p number begun) (before ++ begun)
+  pub none : (more : List ℕ) → spells p number (begun ++ byte ∷ more) → ⊥
 
 -- The meaning of a name, about the bytes `used` up to the offset and the bytes `rest` after it. Each name of the format
 -- has its own line. TooLong: `used` has one byte more than the limit. The other names have no meaning here: those of

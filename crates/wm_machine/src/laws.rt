@@ -5,13 +5,13 @@ ghost use Rattle.std.specs.List.{AllByRecursion};
 ghost use Rattle.wm_syntax.specs.declared.profile.Profile.{Profile};
 ghost use Rattle.wm_syntax.specs.Spelling.{AreBytes};
 ghost use Rattle.wm_syntax.specs.Modules.{Module as ModuleValue};
-ghost use Rattle.wm_syntax.specs.Profiles.{Extends, IsOf, four};
+ghost use Rattle.wm_syntax.specs.Profiles.{Extends, IsOf, every};
 ghost use Rattle.wm_machine.specs.Flat.{FlatModule, IsFlatOf, SpellsFlat, flat_items};
 ghost use Rattle.wm_machine.specs.Items.{Marks, data_byte, items_at};
 ghost use Rattle.wm_machine.specs.Sections.{SpellsModule};
 ghost use Rattle.wm_machine.specs.Sinks.{all_taken, and_then};
 ghost use Rattle.wm_machine.specs.Grammar.{Items};
-ghost use Rattle.wm_machine.specs.BetweenProfiles.{HasItem, SameUpToProfile};
+ghost use Rattle.wm_machine.specs.BetweenProfiles.{EncodeAlike, HasItem, SameUpToProfile};
 ghost use Rattle.wm_machine.specs.Decoding.{Setting};
 ghost use Rattle.wm_machine.specs.Meanings.{AtItem, GivesRuleNames, IsRuleName, MeaningOfFormat, Meant};
 ghost use Rattle.wm_machine.specs.Meanings.{RefusesBy};
@@ -76,9 +76,9 @@ pub fn items_determine_module()
         → m ≡ n }
 {}
 
-/// Every module is of the profile `four`.
-pub fn fourth_profile_has_all()
-    ensures { (m : ModuleValue) → IsOf four m }
+/// Every module is of the profile `every`, which has all features.
+pub fn all_features_have_all()
+    ensures { (m : ModuleValue) → IsOf every m }
 {}
 
 /// Bytes that spell a module under a profile spell it under every profile that extends this one.
@@ -116,17 +116,20 @@ pub fn rule_names_are_of_items<S: Sink>()
 {}
 
 /// A profile and one that extends it give the same answer to an input, with one exception. The first may refuse a byte
-/// as `Float` or `BadOpcode`; then the second refuses no earlier, if at all.
+/// as `Float` or `BadOpcode`, or as `BadByte` if it lacks the `LongIndex` of the second; then the second refuses no
+/// earlier, if at all.
 pub fn profiles_answer_alike<S: Sink>()
     ensures { (p q : Profile) (limit : ℕ) (first : S.Held) (input : List ℕ) → Extends q p
-        → SameUpToProfile
+        → SameUpToProfile p q
         (answer_of S.after (record { profile = p; limit = limit; first = first }) input)
         (answer_of S.after (record { profile = q; limit = limit; first = first }) input) }
 {}
 
-/// Bytes spell a flat value under a profile if and only if two conditions hold. They spell it under a profile that
-/// extends this one, and this profile has each item of the value.
+/// Bytes that spell a flat value under a profile spell it under each profile that extends this one, and this profile
+/// has each item of the value. The converse holds of two profiles that encode alike.
 pub fn items_tell_the_profile()
-    ensures { (p q : Profile) (v : FlatModule) (b : List ℕ) → Extends q p
-        → SpellsFlat p v b ↔ SpellsFlat q v b × AllByRecursion (HasItem p) (flat_items v) }
+    ensures more { (p q : Profile) (v : FlatModule) (b : List ℕ) → Extends q p → SpellsFlat p v b
+        → SpellsFlat q v b × AllByRecursion (HasItem p) (flat_items v) }
+    ensures less { (p q : Profile) (v : FlatModule) (b : List ℕ) → Extends q p → EncodeAlike p q
+        → SpellsFlat q v b → AllByRecursion (HasItem p) (flat_items v) → SpellsFlat p v b }
 {}

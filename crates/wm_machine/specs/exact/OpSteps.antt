@@ -1,5 +1,5 @@
 -- Exact answers of the reader of one op.
-use Rattle.std.specs.Prelude.{ℕ, zero, suc, ◌+◌, ◌*◌, ◌/◌, ◌^◌, ◌==◌, ℤ, if◌then◌else◌, Option, Some}
+use Rattle.std.specs.Prelude.{ℕ, zero, suc, nat_lt, ◌+◌, ◌-◌, ◌*◌, ◌/◌, ◌^◌, ◌==◌, ℤ, if◌then◌else◌, Option, Some}
 use Rattle.std.specs.Prelude.{None as Nothing}
 use Rattle.wm_syntax.specs.declared.numbers.Step.{Step}
 use Rattle.wm_syntax.specs.declared.numbers.Step.TheVariants as step
@@ -7,6 +7,8 @@ use Rattle.wm_syntax.specs.inner.Numbers.{Partial}
 use Rattle.wm_syntax.specs.exact.Reading.{fresh, unsigned_push, signed_push}
 use Rattle.wm_syntax.specs.exact.ByteTable.{class_under}
 use Rattle.wm_syntax.specs.declared.profile.Profile.{Profile}
+use Rattle.wm_syntax.specs.declared.profile.Feature.TheVariants.{LongIndex}
+use Rattle.wm_syntax.specs.Profiles.{has, has_prefix}
 use Rattle.wm_syntax.specs.declared.why.Why.TheVariants as why
 use Rattle.wm_syntax.specs.declared.types.ValType.{ValType}
 use Rattle.wm_syntax.specs.declared.instructions.MemArg.{MemArg}
@@ -23,8 +25,8 @@ use Rattle.wm_machine.specs.declared.step.ops.BlockOp.{BlockOp}
 use Rattle.wm_machine.specs.declared.step.ops.BlockOp.TheVariants as opening
 use Rattle.wm_machine.specs.declared.step.ops.Indexed.{Indexed}
 use Rattle.wm_machine.specs.declared.step.ops.Indexed.TheVariants as indexed
-use Rattle.wm_machine.specs.declared.step.ops.Sizing.{Sizing}
-use Rattle.wm_machine.specs.declared.step.ops.Sizing.TheVariants as sizing
+use Rattle.wm_machine.specs.declared.step.ops.MemoryOp.{MemoryOp}
+use Rattle.wm_machine.specs.declared.step.ops.MemoryOp.TheVariants as memory
 use Rattle.wm_machine.specs.declared.step.ops.LoadOrStore.{LoadOrStore}
 use Rattle.wm_machine.specs.declared.step.ops.LoadOrStore.TheVariants as accesses
 use Rattle.wm_machine.specs.declared.step.ops.InOp.{InOp}
@@ -51,9 +53,11 @@ index_op indexed.GlobalSet n = op.Simple (s.GlobalSet n)
 abbrev pub call_op : ℕ → Op
 call_op n = op.Simple (s.CallIndirect n)
 
-abbrev pub memory_op : Sizing → Op
-memory_op sizing.Size = op.Simple s.MemorySize
-memory_op sizing.Grow = op.Simple s.MemoryGrow
+abbrev pub memory_op : MemoryOp → Op
+memory_op memory.Size = op.Simple s.MemorySize
+memory_op memory.Grow = op.Simple s.MemoryGrow
+memory_op memory.Copy = op.Simple s.MemoryCopy
+memory_op memory.Fill = op.Simple s.MemoryFill
 
 abbrev pub const_32_op : ℤ → Op
 const_32_op z = op.Simple (s.I32Const z)
@@ -98,8 +102,10 @@ immediates k.LocalSet = fresh_index indexed.LocalSet
 immediates k.LocalTee = fresh_index indexed.LocalTee
 immediates k.GlobalGet = fresh_index indexed.GlobalGet
 immediates k.GlobalSet = fresh_index indexed.GlobalSet
-immediates k.MemorySize = at.Memory sizing.Size
-immediates k.MemoryGrow = at.Memory sizing.Grow
+immediates k.MemorySize = at.Memory memory.Size
+immediates k.MemoryGrow = at.Memory memory.Grow
+immediates k.MemoryCopy = at.FirstZero
+immediates k.MemoryFill = at.Memory memory.Fill
 immediates k.I32Const = at.Const32 fresh
 immediates k.I64Const = at.Const64 fresh
 immediates k.F32Const = at.Float32 3 0
@@ -112,12 +118,39 @@ abbrev pub access_class : LoadOrStore → OpClass
 access_class (accesses.Load o) = With (k.Load o)
 access_class (accesses.Store o) = With (k.Store o)
 
--- the first byte, by its class
-abbrev pub first_step : OpClass → Reading InOp Op
-first_step (Plain o) = Done o
-first_step (With kind) = More (immediates kind)
-first_step Float = Bad why.Float
-first_step None = Bad why.BadOpcode
+-- the last byte of a code, by the class of the code
+abbrev pub class_step : OpClass → Reading InOp Op
+class_step (Plain o) = Done o
+class_step (With kind) = More (immediates kind)
+class_step Float = Bad why.Float
+class_step None = Bad why.BadOpcode
+
+-- the first byte: FC, or a code
+abbrev pub prefix_step : Profile → Reading InOp Op
+prefix_step p = if has_prefix p then More at.Code else Bad why.BadOpcode
+
+abbrev pub begin_step : Profile → ℕ → Reading InOp Op
+begin_step p c = if c == 0xFC then prefix_step p else class_step (class_under p c)
+
+-- The number behind FC: its first byte, and each later one, with at most `left` after it. Its low seven bits are the
+-- number of an instruction, and its other bits are 0.
+abbrev pub behind_step : Profile → ℕ → Reading InOp Op
+behind_step p n = class_step (class_under p (0x100 + n))
+
+abbrev pub padded : Reading InOp Op → ℕ → Reading InOp Op
+padded (Bad w) n = Bad w
+padded (More r) n = More (at.Padding n 3)
+padded (Done o) n = More (at.Padding n 3)
+
+abbrev pub code_step : Profile → ℕ → Reading InOp Op
+code_step p c = if nat_lt c 0x80 then behind_step p c else padded (behind_step p (c - 0x80)) (c - 0x80)
+
+abbrev pub more_padding : ℕ → ℕ → ℕ → Reading InOp Op
+more_padding n zero c = Bad why.BadOpcode
+more_padding n (suc left) c = if c == 0x80 then More (at.Padding n left) else Bad why.BadOpcode
+
+abbrev pub padding_step : Profile → ℕ → ℕ → ℕ → Reading InOp Op
+padding_step p n left c = if c == 0x00 then behind_step p n else more_padding n left c
 
 abbrev pub block_step : Profile → BlockOp → ℕ → Reading InOp Op
 block_step p o c =
@@ -130,12 +163,27 @@ op_index_step i r c =
 
 abbrev pub call_type_step : Partial → ℕ → Reading InOp Op
 call_type_step r c =
-    on_answer (unsigned_push 32 r c) (λ s. More (at.CallType s)) (λ n. More (at.CallTable n))
+    on_answer (unsigned_push 32 r c) (λ s. More (at.CallType s)) (λ n. More (at.CallTable n 4))
     (Bad why.BadNumber)
 
 -- the byte 00 that ends an op
 abbrev pub closing_step : Op → ℕ → Reading InOp Op
 closing_step o c = if c == 0x00 then Done o else Bad why.BadByte
+
+-- the first of the two bytes 00 that end a memory.copy
+abbrev pub first_zero_step : ℕ → Reading InOp Op
+first_zero_step c = if c == 0x00 then More (at.Memory memory.Copy) else Bad why.BadByte
+
+-- The table index that ends a call_indirect, with at most `left` bytes after this one. With long indices bytes 80 may
+-- come before the byte 00.
+abbrev pub long_step : ℕ → ℕ → ℕ → Reading InOp Op
+long_step n zero c = Bad why.BadNumber
+long_step n (suc left) c = if c == 0x80 then More (at.CallTable n left) else Bad why.BadNumber
+
+abbrev pub table_step : Profile → ℕ → ℕ → ℕ → Reading InOp Op
+table_step p n left c =
+    if c == 0x00 then Done (call_op n)
+    else (if has p LongIndex then long_step n left c else Bad why.BadByte)
 
 abbrev pub const_32_step : Partial → ℕ → Reading InOp Op
 const_32_step r c =
@@ -176,11 +224,14 @@ offset_step a align r c =
     (λ n. Done (access_op a (record { align = align; offset = n }))) (Bad why.BadNumber)
 
 abbrev pub op_push : Profile → InOp → ℕ → Reading InOp Op
-op_push p at.First c = first_step (class_under p c)
+op_push p at.First c = begin_step p c
+op_push p at.Code c = code_step p c
+op_push p (at.Padding n left) c = padding_step p n left c
 op_push p (at.BlockType o) c = block_step p o c
 op_push p (at.Index i r) c = op_index_step i r c
 op_push p (at.CallType r) c = call_type_step r c
-op_push p (at.CallTable n) c = closing_step (call_op n) c
+op_push p (at.CallTable n left) c = table_step p n left c
+op_push p at.FirstZero c = first_zero_step c
 op_push p (at.Memory m) c = closing_step (memory_op m) c
 op_push p (at.Const32 r) c = const_32_step r c
 op_push p (at.Const64 r) c = const_64_step r c

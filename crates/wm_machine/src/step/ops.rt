@@ -2,19 +2,21 @@
 
 ghost use Rattle.std.specs.Prelude.{◌≡◌};
 ghost use Rattle.wm_syntax.specs.exact.ByteTable.{class_under};
-ghost use Rattle.wm_machine.specs.exact.OpSteps.{access_op, align_step, block_op, block_step, call_type_step};
-ghost use Rattle.wm_machine.specs.exact.OpSteps.{closing_step, const_32_step, const_64_step, first_step};
-ghost use Rattle.wm_machine.specs.exact.OpSteps.{float_32_step, float_64_step, pushed_32, pushed_64};
+ghost use Rattle.wm_machine.specs.exact.OpSteps.{access_op, align_step, begin_step, block_op, block_step};
+ghost use Rattle.wm_machine.specs.exact.OpSteps.{call_type_step, class_step, code_step, first_zero_step};
+ghost use Rattle.wm_machine.specs.exact.OpSteps.{closing_step, const_32_step, const_64_step, padding_step};
+ghost use Rattle.wm_machine.specs.exact.OpSteps.{prefix_step};
+ghost use Rattle.wm_machine.specs.exact.OpSteps.{float_32_step, float_64_step, pushed_32, pushed_64, table_step};
 ghost use Rattle.wm_machine.specs.exact.OpSteps.{fresh_access, fresh_index, immediates, index_op};
 ghost use Rattle.wm_machine.specs.exact.OpSteps.{op_index_step, memory_op, offset_step, op_push};
 
 use crate::step::reading::Reading;
 use crate::step::values::value_type;
 use wm_syntax::instructions::op_class::{Immediates, OpClass};
-use wm_syntax::instructions::opcodes::op_of;
+use wm_syntax::instructions::opcodes::{op_behind, op_of};
 use wm_syntax::instructions::{LoadOp, MemArg, Op, Simple, StoreOp};
 use wm_syntax::numbers::{Int32, Int64, Num32, Step};
-use wm_syntax::profile::Profile;
+use wm_syntax::profile::{Feature, Profile};
 use wm_syntax::types::ValType;
 use wm_syntax::why::Why;
 
@@ -74,22 +76,26 @@ impl Indexed {
     }
 }
 
-/// `memory.size` or `memory.grow`.
+/// A memory instruction whose immediates are bytes 00.
 #[derive(Clone, Copy)]
-pub enum Sizing {
+pub enum MemoryOp {
     Size,
     Grow,
+    Copy,
+    Fill,
 }
 
-impl Sizing {
+impl MemoryOp {
     /// Returns the op.
     #[inline(always)]
     pub fn op(self) -> Op
         ensures { result ≡ memory_op self }
     {
         match self {
-            Sizing::Size => Op::Simple(Simple::MemorySize),
-            Sizing::Grow => Op::Simple(Simple::MemoryGrow),
+            MemoryOp::Size => Op::Simple(Simple::MemorySize),
+            MemoryOp::Grow => Op::Simple(Simple::MemoryGrow),
+            MemoryOp::Copy => Op::Simple(Simple::MemoryCopy),
+            MemoryOp::Fill => Op::Simple(Simple::MemoryFill),
         }
     }
 }
@@ -119,6 +125,13 @@ impl LoadOrStore {
 pub enum InOp {
     /// Before its first byte.
     First,
+    /// Behind the byte FC: before the first byte of a number.
+    Code,
+    /// Inside this number, which its first byte gives. A byte 00 ends it, and up to `left` bytes 80 may come before.
+    Padding {
+        number: u8,
+        left: u8,
+    },
     BlockType(BlockOp),
     Index {
         op: Indexed,
@@ -126,12 +139,16 @@ pub enum InOp {
     },
     /// Inside the type index of a `call_indirect`.
     CallType(Num32),
-    /// Before the byte 00 that ends a `call_indirect`.
+    /// Before the last byte of a `call_indirect`, which is 00. Under `Feature::LongIndex` up to `left` bytes 80 may come
+    /// before it: they encode the table index 0 in more bytes.
     CallTable {
         ty: u32,
+        left: u8,
     },
-    /// Before the byte 00 that ends a `memory.size` or `memory.grow`.
-    Memory(Sizing),
+    /// Before the first of the two bytes 00 that end a `memory.copy`.
+    FirstZero,
+    /// Before the byte 00 that ends a memory instruction.
+    Memory(MemoryOp),
     Const32(Int32),
     Const64(Int64),
     /// Inside a float; `left` bytes of it follow the next byte. The bytes so far are the highest of `bits`.
@@ -186,8 +203,10 @@ fn immediates(kind: Immediates) -> InOp
         Immediates::LocalTee => before_index(Indexed::LocalTee),
         Immediates::GlobalGet => before_index(Indexed::GlobalGet),
         Immediates::GlobalSet => before_index(Indexed::GlobalSet),
-        Immediates::MemorySize => InOp::Memory(Sizing::Size),
-        Immediates::MemoryGrow => InOp::Memory(Sizing::Grow),
+        Immediates::MemorySize => InOp::Memory(MemoryOp::Size),
+        Immediates::MemoryGrow => InOp::Memory(MemoryOp::Grow),
+        Immediates::MemoryCopy => InOp::FirstZero,
+        Immediates::MemoryFill => InOp::Memory(MemoryOp::Fill),
         Immediates::I32Const => InOp::Const32(Int32::new()),
         Immediates::I64Const => InOp::Const64(Int64::new()),
         Immediates::F32Const => InOp::Float32 { left: 3, bits: 0 },
@@ -198,14 +217,63 @@ fn immediates(kind: Immediates) -> InOp
 }
 
 fn first(profile: Profile, byte: u8) -> Reading<InOp, Op>
-    ensures { result ≡ first_step (class_under profile byte) }
+    ensures { result ≡ begin_step profile byte }
 {
-    match op_of(profile, byte) {
+    if byte == 0xFC {
+        return prefix(profile);
+    }
+    behind_code(op_of(profile, byte))
+}
+
+// Takes the byte FC
+fn prefix(profile: Profile) -> Reading<InOp, Op>
+    ensures { result ≡ prefix_step profile }
+{
+    if profile.has_prefix() {
+        Reading::More(InOp::Code)
+    } else {
+        Reading::Bad(Why::BadOpcode)
+    }
+}
+
+// Returns what follows the code of an op of this class
+fn behind_code(class: OpClass) -> Reading<InOp, Op>
+    ensures { result ≡ class_step class }
+{
+    match class {
         OpClass::Plain(op) => Reading::Done(op),
         OpClass::With(kind) => Reading::More(immediates(kind)),
         OpClass::Float => Reading::Bad(Why::Float),
         OpClass::None => Reading::Bad(Why::BadOpcode),
     }
+}
+
+// Takes the first byte of the number behind FC. Its low seven bits are the number of an instruction, or no byte goes on
+fn code(profile: Profile, byte: u8) -> Reading<InOp, Op>
+    ensures { result ≡ code_step profile byte }
+{
+    if byte < 0x80 {
+        return behind_code(op_behind(profile, u32::from(byte)));
+    }
+    let number = byte - 0x80;
+    match behind_code(op_behind(profile, u32::from(number))) {
+        Reading::Bad(why) => Reading::Bad(why),
+        Reading::More(_) | Reading::Done(_) => Reading::More(InOp::Padding { number, left: 3 }),
+    }
+}
+
+// Takes a further byte of the number behind FC
+fn padding(profile: Profile, number: u8, left: u8, byte: u8) -> Reading<InOp, Op>
+    ensures { result ≡ padding_step profile number left byte }
+{
+    if byte == 0x00 {
+        return behind_code(op_behind(profile, u32::from(number)));
+    }
+    if byte != 0x80 || left == 0 {
+        return Reading::Bad(Why::BadOpcode);
+    }
+    let left = left - 1;
+    Reading::More(InOp::Padding { number, left })
 }
 
 fn block_type(profile: Profile, op: BlockOp, byte: u8) -> Reading<InOp, Op>
@@ -235,7 +303,7 @@ fn call_type(mut number: Num32, byte: u8) -> Reading<InOp, Op>
 {
     match number.push(byte) {
         Step::More => Reading::More(InOp::CallType(number)),
-        Step::Done(ty) => Reading::More(InOp::CallTable { ty }),
+        Step::Done(ty) => Reading::More(InOp::CallTable { ty, left: 4 }),
         Step::Bad => Reading::Bad(Why::BadNumber),
     }
 }
@@ -248,6 +316,33 @@ fn closing(op: Op, byte: u8) -> Reading<InOp, Op>
         0x00 => Reading::Done(op),
         _ => Reading::Bad(Why::BadByte),
     }
+}
+
+// Takes the first of the two bytes 00 of a `memory.copy`
+fn first_zero(byte: u8) -> Reading<InOp, Op>
+    ensures { result ≡ first_zero_step byte }
+{
+    match byte {
+        0x00 => Reading::More(InOp::Memory(MemoryOp::Copy)),
+        _ => Reading::Bad(Why::BadByte),
+    }
+}
+
+// Takes a byte of the table index of a `call_indirect`
+fn call_table(profile: Profile, ty: u32, left: u8, byte: u8) -> Reading<InOp, Op>
+    ensures { result ≡ table_step profile ty left byte }
+{
+    if byte == 0x00 {
+        return Reading::Done(Op::Simple(Simple::CallIndirect(ty)));
+    }
+    if !profile.has(Feature::LongIndex) {
+        return Reading::Bad(Why::BadByte);
+    }
+    if left == 0 || byte != 0x80 {
+        return Reading::Bad(Why::BadNumber);
+    }
+    let left = left - 1;
+    Reading::More(InOp::CallTable { ty, left })
 }
 
 fn const_32(mut number: Int32, byte: u8) -> Reading<InOp, Op>
@@ -342,10 +437,13 @@ impl InOp {
     {
         match self {
             InOp::First => first(profile, byte),
+            InOp::Code => code(profile, byte),
+            InOp::Padding { number, left } => padding(profile, number, left, byte),
             InOp::BlockType(op) => block_type(profile, op, byte),
             InOp::Index { op, number } => index(op, number, byte),
             InOp::CallType(number) => call_type(number, byte),
-            InOp::CallTable { ty } => closing(Op::Simple(Simple::CallIndirect(ty)), byte),
+            InOp::CallTable { ty, left } => call_table(profile, ty, left, byte),
+            InOp::FirstZero => first_zero(byte),
             InOp::Memory(op) => closing(op.op(), byte),
             InOp::Const32(number) => const_32(number, byte),
             InOp::Const64(number) => const_64(number, byte),

@@ -1,5 +1,8 @@
-use Rattle.wm_machine.proofs.ItemsOfProfiles.{spelled_with_items}
+use Rattle.wm_machine.proofs.ItemsOfProfiles.{spelled_by_items, spelled_of_items}
 use Rattle.wm_machine.proofs.laws.items_tell_the_profile.Goals as goal
 
 pub returns : goal.returns
-returns c = λ p q v b more. spelled_with_items p q v b more
+returns c = record {
+  more = λ p q v b more h. spelled_of_items p q v b more h;
+  less = λ p q v b more alike h own. spelled_by_items p q v b more alike h own;
+}
