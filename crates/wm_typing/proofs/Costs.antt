@@ -31,6 +31,7 @@ use Rattle.wm_syntax.specs.declared.instructions.Simple.TheVariants as s
 use Rattle.wm_syntax.specs.declared.instructions.Numeric.{Numeric}
 use Rattle.wm_syntax.specs.declared.instructions.Numeric.TheVariants as num
 use Rattle.wm_syntax.specs.declared.instructions.SignExtension.TheVariants as ext
+use Rattle.wm_syntax.specs.declared.instructions.Saturation.TheVariants as sat
 use Rattle.wm_syntax.specs.Types.{Signature}
 use Rattle.wm_syntax.specs.Opcodes.{numeric, load, store}
 use Rattle.wm_typing.specs.exact.Answers.{Acts, Adds}
@@ -268,6 +269,8 @@ small_numeric (num.SignExtend ext.I32From16) = tt
 small_numeric (num.SignExtend ext.I64From8) = tt
 small_numeric (num.SignExtend ext.I64From16) = tt
 small_numeric (num.SignExtend ext.I64From32) = tt
+small_numeric (num.Saturate sat.I32TruncSatF32S) = tt
+small_numeric (num.Saturate _) = tt
 
 small : (c : Context) (p : Simple) → OneResult c → SmallShape (effect_of c p)
 small c s.Unreachable h = tt
@@ -289,6 +292,8 @@ small c (s.GlobalSet x) h =
     small_item (slice_get c.globals x) (λ g. where_true why.Immutable g.var (fixed (g.ty ∷ []) [])) (λ g e. small_where why.Immutable g.var (fixed (g.ty ∷ []) []) tt)
 small c s.MemorySize h = small_where why.Index c.has_memory (fixed [] (I32 ∷ [])) tt
 small c s.MemoryGrow h = small_where why.Index c.has_memory (fixed (I32 ∷ []) (I32 ∷ [])) tt
+small c s.MemoryCopy h = small_where why.Index c.has_memory (fixed (I32 ∷ I32 ∷ I32 ∷ []) []) tt
+small c s.MemoryFill h = small_where why.Index c.has_memory (fixed (I32 ∷ I32 ∷ I32 ∷ []) []) tt
 small c (s.I32Const n) h = tt
 small c (s.I64Const n) h = tt
 small c (s.F32Const n) h = tt

@@ -11,6 +11,7 @@ use Rattle.wm_syntax.specs.declared.instructions.Simple.TheVariants.{Unreachable
 use Rattle.wm_syntax.specs.declared.instructions.Simple.TheVariants.{Br, BrIf, Call, CallIndirect, LocalGet}
 use Rattle.wm_syntax.specs.declared.instructions.Simple.TheVariants.{LocalSet, LocalTee, GlobalGet, GlobalSet}
 use Rattle.wm_syntax.specs.declared.instructions.Simple.TheVariants.{MemorySize, MemoryGrow, I32Const}
+use Rattle.wm_syntax.specs.declared.instructions.Simple.TheVariants.{MemoryCopy, MemoryFill}
 use Rattle.wm_syntax.specs.declared.instructions.Simple.TheVariants.{I64Const, F32Const, F64Const, Load}
 use Rattle.wm_syntax.specs.declared.instructions.Simple.TheVariants.{Store, Numeric}
 use Rattle.wm_syntax.specs.Opcodes.{numeric, load, store}
@@ -53,6 +54,9 @@ abbrev pub global_set_effect : Context → ℕ → Effect
 global_set_effect c x =
     with_item (slice_get c.globals x) (λ g. where_true why.Immutable g.var (fixed (g.ty ∷ []) []))
 
+abbrev pub bulk_effect : Context → Effect
+bulk_effect c = where_true why.Index c.has_memory (fixed (I32 ∷ I32 ∷ I32 ∷ []) [])
+
 abbrev pub effect_of : Context → Simple → Effect
 effect_of c Unreachable = is_polymorphic []
 effect_of c Nop = fixed [] []
@@ -71,6 +75,8 @@ effect_of c (GlobalGet x) = global_get_effect c x
 effect_of c (GlobalSet x) = global_set_effect c x
 effect_of c MemorySize = where_true why.Index c.has_memory (fixed [] (I32 ∷ []))
 effect_of c MemoryGrow = where_true why.Index c.has_memory (fixed (I32 ∷ []) (I32 ∷ []))
+effect_of c MemoryCopy = bulk_effect c
+effect_of c MemoryFill = bulk_effect c
 effect_of c (I32Const n) = fixed [] (I32 ∷ [])
 effect_of c (I64Const n) = fixed [] (I64 ∷ [])
 effect_of c (F32Const n) = fixed [] (F32 ∷ [])
