@@ -1,6 +1,6 @@
 -- Ops that lie whole in a list of bytes.
-use Rattle.std.proofs.Common.{◌≡◌, ℕ, zero, suc, ◌+◌, ◌-◌, ◌<◌, ◌≤◌, ◌^◌, List, [], ◌∷◌, ◌++◌, Option, Some, None as Nothing, length, refl, sym, ◌∙◌, ap, subst, arith, slice_range, slice_index, take, drop, ℤ, nat_lt, true, cond, length-drop, length-take, Result, IfSome}
-use Rattle.std.proofs.lemmas.Bool.{lt-ltb}
+use Rattle.std.proofs.Common.{◌≡◌, ℕ, Bool, IsTrue, zero, suc, ◌+◌, ◌-◌, ◌<◌, ◌≤◌, ◌^◌, List, [], ◌∷◌, ◌++◌, Option, Some, None as Nothing, length, refl, sym, ◌∙◌, ap, subst, arith, slice_range, slice_index, take, drop, ℤ, nat_eq, nat_lt, true, cond, length-drop, length-take, Result, IfSome}
+use Rattle.std.proofs.lemmas.Bool.{cond_both, cond-true, eqb-true, lt-ltb}
 use Rattle.std.proofs.Math.Seq.{take-add}
 use Rattle.std.proofs.lemmas.List.{drop-drop}
 use Rattle.wm_syntax.specs.declared.why.Why.{Why}
@@ -16,18 +16,21 @@ use Rattle.wm_syntax.specs.declared.instructions.MemArg.{MemArg}
 use Rattle.wm_syntax.specs.declared.instructions.Op.{Op}
 use Rattle.wm_syntax.specs.declared.instructions.Op.TheVariants as op
 use Rattle.wm_syntax.specs.declared.instructions.op_class.Immediates.TheVariants as kinds
+use Rattle.wm_syntax.specs.declared.instructions.op_class.OpClass.{OpClass}
 use Rattle.wm_syntax.specs.declared.instructions.op_class.OpClass.TheVariants as class
+use Rattle.wm_syntax.specs.declared.instructions.Simple.{Simple}
+use Rattle.wm_machine.specs.declared.step.reading.Reading.{Reading}
 use Rattle.wm_machine.specs.declared.step.reading.Reading.TheVariants.{More, Done, Bad}
 use Rattle.wm_machine.specs.declared.step.ops.Indexed.{Indexed}
 use Rattle.wm_machine.specs.declared.step.ops.LoadOrStore.{LoadOrStore}
 use Rattle.wm_machine.specs.declared.step.ops.LoadOrStore.TheVariants as accesses
 use Rattle.wm_machine.specs.declared.step.ops.BlockOp.{BlockOp}
 use Rattle.wm_machine.specs.declared.step.ops.BlockOp.TheVariants as openings
-use Rattle.wm_machine.specs.declared.step.ops.Sizing.{Sizing}
-use Rattle.wm_machine.specs.declared.step.ops.Sizing.TheVariants as sizings
+use Rattle.wm_machine.specs.declared.step.ops.MemoryOp.{MemoryOp}
+use Rattle.wm_machine.specs.declared.step.ops.MemoryOp.TheVariants as memories
 use Rattle.wm_machine.specs.declared.step.ops.InOp.{InOp}
 use Rattle.wm_machine.specs.declared.step.ops.InOp.TheVariants as at
-use Rattle.wm_machine.specs.exact.OpSteps.{op_push, first_step, on_answer, index_op, access_op, call_op, memory_op, block_op, block_step, const_32_op, const_64_op, float_32_op, float_64_op, fresh_index, fresh_access, access_class, pushed_32, pushed_64}
+use Rattle.wm_machine.specs.exact.OpSteps.{op_push, class_step, on_answer, index_op, access_op, call_op, memory_op, block_op, block_step, const_32_op, const_64_op, float_32_op, float_64_op, fresh_index, fresh_access, access_class, pushed_32, pushed_64}
 use Rattle.wm_machine.specs.exact.ExpressionSteps.{at_next_op, deeper, after_op}
 use Rattle.wm_shortcuts.specs.exact.WholeOps.{GaveAs, TookAs, NumberGoes, IsNumber, LiesAt, OpGoes, IsOp, OpUnder, WholeOp, class_row, first_read}
 use Rattle.wm_shortcuts.specs.declared.whole_ops.Read.{Read}
@@ -35,6 +38,9 @@ use Rattle.wm_shortcuts.specs.declared.whole_ops.Took.{Took}
 use Rattle.wm_shortcuts.specs.declared.whole_ops.Took.TheVariants as took
 use Rattle.wm_machine.specs.Items.{Item}
 use Rattle.wm_shortcuts.proofs.WholeNumbers.{one_range}
+use Rattle.std.specs.Prelude.{if◌then◌else◌}
+use Rattle.wm_syntax.specs.Profiles.{has, has_prefix}
+use Rattle.wm_syntax.specs.declared.profile.Feature.TheVariants.{LongIndex}
 
 -- a slice in two
 drop_drop : (xs : List ℕ) (i j : ℕ) → drop j (drop i xs) ≡ drop (i + j) xs
@@ -59,13 +65,37 @@ second_range xs i within =
     let two : i + 1 + 1 ≡ i + 2 = omega arith in
     ap (λ n. slice_range xs (i + 1) n) (sym two) ∙ one_range xs (i + 1) within
 
--- the byte step on the first byte of an op
-pub begins : (p : Profile) (c : ℕ) → op_push p at.First c ≡ first_read p c
+-- the byte step on the first byte of an op: a code, which is not FC
+by_code : (p : Profile) (c : ℕ) → (c ≡ 0xFC → ⊥) → op_push p at.First c ≡ first_read p c
 unfolding class_under
-begins p c = refl
+by_code p c other = cond_both (nat_eq c 0xFC) _ _ (λ (a : Reading InOp Op). a ≡ first_read p c) (λ z. absurd (other (eqb-true c 0xFC z))) (λ _. refl)
+
+prefix_read : (p : Profile) (c : ℕ) → c ≡ 0xFC → first_read p c ≡ Bad why.BadOpcode
+prefix_read p c z = ap (first_read p) z
+
+begins_more : (p : Profile) (c : ℕ) (q : InOp) → first_read p c ≡ More q → op_push p at.First c ≡ More q
+begins_more p c q e = by_code p c (λ z. let f : More q ≡ Bad why.BadOpcode = sym e ∙ prefix_read p c z in cc) ∙ e
 
 pub is_alone : (p : Profile) (c : ℕ) (o : Op) → first_read p c ≡ Done o → op_push p at.First c ≡ Done o
-is_alone p c o e = begins p c ∙ e
+is_alone p c o e = by_code p c (λ z. let f : Done o ≡ Bad why.BadOpcode = sym e ∙ prefix_read p c z in cc) ∙ e
+
+-- the byte FC, and a number of one byte
+prefix_more : (p : Profile) (c : ℕ) → c ≡ 0xFC → IsTrue (has_prefix p) → op_push p at.First c ≡ More at.Code
+prefix_more p c z h = ap (op_push p at.First) z ∙ cond-true (has_prefix p) _ _ h
+
+behind : (p : Profile) (c : ℕ) → c < 0x80 → op_push p at.Code c ≡ class_step (class_under p (0x100 + c))
+behind p c l = cond-true (nat_lt c 0x80) _ _ (lt-ltb c 0x80 l)
+
+pub prefixed : (p : Profile) (bytes : List ℕ) (i k : ℕ) (class : OpClass) (o : Op) → i + 1 < length bytes → i + 1 < k → IsTrue (has_prefix p) → slice_index bytes i ≡ 0xFC → slice_index bytes (i + 1) < 0x80
+    → class ≡ class_under p (0x100 + slice_index bytes (i + 1)) → OpGoes (class_step class) (λ r. IsOp p r (slice_range bytes (i + 2) k) o) (slice_range bytes (i + 2) k) o → IsOp p at.First (slice_range bytes i k) o
+prefixed p bytes i k class o within less has first small is rest =
+    let two : i + 1 + 1 ≡ i + 2 = omega arith in
+    let inner : IsOp p at.Code (slice_range bytes (i + 1) k) o =
+    subst (λ (y : List ℕ). IsOp p at.Code y o) (sym (range_first bytes (i + 1) k within less))
+    (subst (λ y. OpGoes y (λ r. IsOp p r (slice_range bytes (i + 1 + 1) k) o) (slice_range bytes (i + 1 + 1) k) o) (ap class_step is ∙ sym (behind p (slice_index bytes (i + 1)) small))
+    (subst (λ n. OpGoes (class_step class) (λ r. IsOp p r (slice_range bytes n k) o) (slice_range bytes n k) o) (sym two) rest)) in
+    subst (λ (y : List ℕ). IsOp p at.First y o) (sym (range_first bytes i k (omega arith) (omega arith)))
+    (subst (λ y. OpGoes y (λ r. IsOp p r (slice_range bytes (i + 1) k) o) (slice_range bytes (i + 1) k) o) (sym (prefix_more p (slice_index bytes i) first has)) inner)
 
 -- a number that ends an op, and one after which it goes on
 module _ {T : Type 0} (p : Profile) (push : Partial → ℕ → Step T × Partial) (from : Partial → InOp) where
@@ -103,7 +133,7 @@ first_under : (p : Profile) (bytes : List ℕ) (i k : ℕ) (q : InOp) (o : Op) �
     → IsOp p q (slice_range bytes (i + 1) k) o → IsOp p at.First (slice_range bytes i k) o
 first_under p bytes i k q o within less first rest =
     subst (λ (y : List ℕ). IsOp p at.First y o) (sym (range_first bytes i k within less))
-    (subst (λ y. OpGoes y (λ r. IsOp p r (slice_range bytes (i + 1) k) o) (slice_range bytes (i + 1) k) o) (sym (begins p (slice_index bytes i) ∙ first)) rest)
+    (subst (λ y. OpGoes y (λ r. IsOp p r (slice_range bytes (i + 1) k) o) (slice_range bytes (i + 1) k) o) (sym (begins_more p (slice_index bytes i) q first)) rest)
 
 pub first_then : (bytes : List ℕ) (i k : ℕ) (q : InOp) (o : Op) → i < length bytes → i < k → Begins bytes i q
     → ((p : Profile) → IsOp p q (slice_range bytes (i + 1) k) o) → (p : Profile) → IsOp p at.First (slice_range bytes i k) o
@@ -117,7 +147,7 @@ under_alone p bytes i depth inside o within is opens = record {
   within = omega arith;
   spelled =
       subst (λ (y : List ℕ). IsOp p at.First y o) (sym (one_range bytes i within))
-      (subst (λ y. OpGoes y (λ r. IsOp p r [] o) [] o) (sym (begins p (slice_index bytes i) ∙ ap first_step is)) (refl, refl));
+      (subst (λ y. OpGoes y (λ r. IsOp p r [] o) [] o) (sym (is_alone p (slice_index bytes i) o (ap class_step is))) (refl, refl));
   opens = opens;
 }
 
@@ -171,7 +201,7 @@ access_rest p bytes i middle next m n a align offset =
     (number_then p (unsigned_push 32) (at.Align a) (λ v. at.Offset a v fresh) (λ r c. refl) fresh (slice_range bytes (i + 1) middle) (slice_range bytes middle next) m (access_op a (record { align = m; offset = n })) align.spelled
     (number_ends p (unsigned_push 32) (at.Offset a m) (λ v. access_op a (record { align = m; offset = v })) (λ r c. refl) fresh (slice_range bytes middle next) n offset.spelled))
 
-access_begins : (a : LoadOrStore) → first_step (access_class a) ≡ More (fresh_access a)
+access_begins : (a : LoadOrStore) → class_step (access_class a) ≡ More (fresh_access a)
 access_begins (accesses.Load o) = refl
 access_begins (accesses.Store o) = refl
 
@@ -181,30 +211,56 @@ under_access p bytes i middle next depth m n a is align offset = record {
   some = omega arith;
   within = offset.within;
   spelled = first_under p bytes i next (fresh_access a) (access_op a (record { align = m; offset = n })) (omega arith) (omega arith)
-      (ap first_step is ∙ access_begins a) (access_rest p bytes i middle next m n a align offset);
+      (ap class_step is ∙ access_begins a) (access_rest p bytes i middle next m n a align offset);
   opens = access_opens a (record { align = m; offset = n }) depth;
 }
 
--- an indirect call: the number of a type, and the byte 00
-pub whole_call_indirect : (bytes : List ℕ) (i middle depth n : ℕ) → Begins bytes i (at.CallType fresh) → LiesAt (unsigned_push 32) bytes (i + 1) middle n → middle < length bytes → slice_index bytes middle ≡ 0x00
-    → WholeOp bytes i (middle + 1) depth depth (call_op n)
-whole_call_indirect bytes i middle depth n first ty less closed = record {
+-- the table index of an indirect call: the byte 00, or four bytes 80 before it
+table_more : (p : Profile) (bytes : List ℕ) (i j k n left : ℕ) → IsTrue (has p LongIndex) → i < length bytes → i < k → i + 1 ≡ j → slice_index bytes i ≡ 0x80
+    → IsOp p (at.CallTable n left) (slice_range bytes j k) (call_op n) → IsOp p (at.CallTable n (suc left)) (slice_range bytes i k) (call_op n)
+table_more p bytes i j k n left long within less next is rest =
+    let r : List ℕ = slice_range bytes (i + 1) k in
+    let o : Op = call_op n in
+    subst (λ (y : List ℕ). IsOp p (at.CallTable n (suc left)) y o) (sym (range_first bytes i k within less))
+    (subst (λ c. IsOp p (at.CallTable n (suc left)) (c ∷ r) o) (sym is)
+    (subst (λ (b : Bool). OpGoes (if b then More (at.CallTable n left) else Bad why.BadByte) (λ q. IsOp p q r o) r o) (sym long)
+    (subst (λ m. IsOp p (at.CallTable n left) (slice_range bytes m k) o) (sym next) rest)))
+
+pub table_of_one : (p : Profile) (bytes : List ℕ) (i j left : ℕ) → i < length bytes → i + 1 ≡ j → slice_index bytes i ≡ 0x00 → (n : ℕ) → IsOp p (at.CallTable n left) (slice_range bytes i j) (call_op n)
+table_of_one p bytes i j left within next is n =
+    subst (λ m. IsOp p (at.CallTable n left) (slice_range bytes i m) (call_op n)) next
+    (subst (λ (y : List ℕ). IsOp p (at.CallTable n left) y (call_op n)) (sym (one_range bytes i within))
+    (subst (λ c. IsOp p (at.CallTable n left) (c ∷ []) (call_op n)) (sym is) (refl, refl)))
+
+pub table_of_five : (p : Profile) (bytes : List ℕ) (i : ℕ) → IsTrue (has p LongIndex) → i + 4 < length bytes → slice_index bytes i ≡ 0x80 → slice_index bytes (i + 1) ≡ 0x80 → slice_index bytes (i + 2) ≡ 0x80
+    → slice_index bytes (i + 3) ≡ 0x80 → slice_index bytes (i + 4) ≡ 0x00 → (n : ℕ) → IsOp p (at.CallTable n 4) (slice_range bytes i (i + 5)) (call_op n)
+table_of_five p bytes i long within a b c d e n =
+    table_more p bytes i (i + 1) (i + 5) n 3 long (omega arith) (omega arith) refl a
+    (table_more p bytes (i + 1) (i + 2) (i + 5) n 2 long (omega arith) (omega arith) (omega arith) b
+    (table_more p bytes (i + 2) (i + 3) (i + 5) n 1 long (omega arith) (omega arith) (omega arith) c
+    (table_more p bytes (i + 3) (i + 4) (i + 5) n 0 long (omega arith) (omega arith) (omega arith) d
+    (table_of_one p bytes (i + 4) (i + 5) 0 within (omega arith) e n))))
+
+-- an indirect call: the number of a type, and the table index
+pub under_call_indirect : (p : Profile) (bytes : List ℕ) (i middle next depth n : ℕ) → class_row p (slice_index bytes i) ≡ class.With kinds.CallIndirect → LiesAt (unsigned_push 32) bytes (i + 1) middle n
+    → middle < next → next ≤ length bytes → ((n : ℕ) → IsOp p (at.CallTable n 4) (slice_range bytes middle next) (call_op n)) → OpUnder p bytes i next depth depth (call_op n)
+under_call_indirect p bytes i middle next depth n is ty more within table = record {
   some = omega arith;
-  within = omega arith;
-  spelled = first_then bytes i (middle + 1) (at.CallType fresh) (call_op n) (omega arith) (omega arith) first
-      (λ p. subst (λ (y : List ℕ). IsOp p (at.CallType fresh) y (call_op n)) (sym (range_split bytes (i + 1) middle (middle + 1) (omega arith) (omega arith)))
-      (number_then p (unsigned_push 32) at.CallType at.CallTable (λ r c. refl) fresh (slice_range bytes (i + 1) middle) (slice_range bytes middle (middle + 1)) n (call_op n) ty.spelled
-      (subst (λ (y : List ℕ). IsOp p (at.CallTable n) y (call_op n)) (sym (one_range bytes middle less))
-      (subst (λ c. IsOp p (at.CallTable n) (c ∷ []) (call_op n)) (sym closed) (refl, refl)))));
+  within = within;
+  spelled = first_under p bytes i next (at.CallType fresh) (call_op n) (omega arith) (omega arith) (ap class_step is)
+      (subst (λ (y : List ℕ). IsOp p (at.CallType fresh) y (call_op n)) (sym (range_split bytes (i + 1) middle next (omega arith) (omega arith)))
+      (number_then p (unsigned_push 32) at.CallType (λ v. at.CallTable v 4) (λ r c. refl) fresh (slice_range bytes (i + 1) middle) (slice_range bytes middle next) n (call_op n) ty.spelled (table n)));
   opens = refl;
 }
 
--- an op on the memory's size: the byte 00
-memory_opens : (x : Sizing) (depth : ℕ) → after_op depth (memory_op x) ≡ at_next_op depth
-memory_opens sizings.Size depth = refl
-memory_opens sizings.Grow depth = refl
+-- a memory instruction: the byte 00
+memory_opens : (x : MemoryOp) (depth : ℕ) → after_op depth (memory_op x) ≡ at_next_op depth
+memory_opens memories.Size depth = refl
+memory_opens memories.Grow depth = refl
+memory_opens memories.Copy depth = refl
+memory_opens memories.Fill depth = refl
 
-pub whole_memory : (bytes : List ℕ) (i depth : ℕ) (x : Sizing) → i + 1 < length bytes → Begins bytes i (at.Memory x) → slice_index bytes (i + 1) ≡ 0x00
+pub whole_memory : (bytes : List ℕ) (i depth : ℕ) (x : MemoryOp) → i + 1 < length bytes → Begins bytes i (at.Memory x) → slice_index bytes (i + 1) ≡ 0x00
     → WholeOp bytes i (i + 2) depth depth (memory_op x)
 whole_memory bytes i depth x within first closed = record {
   some = omega arith;
@@ -214,6 +270,48 @@ whole_memory bytes i depth x within first closed = record {
       (subst (λ c. IsOp p (at.Memory x) (c ∷ []) (memory_op x)) (sym closed) (refl, refl)));
   opens = memory_opens x depth;
 }
+
+closed_at : (p : Profile) (bytes : List ℕ) (i k : ℕ) (x : MemoryOp) → i < length bytes → i + 1 ≡ k → slice_index bytes i ≡ 0x00 → IsOp p (at.Memory x) (slice_range bytes i k) (memory_op x)
+closed_at p bytes i k x within next closed =
+    subst (λ (y : List ℕ). IsOp p (at.Memory x) y (memory_op x)) (sym (ap (slice_range bytes i) (sym next) ∙ one_range bytes i within))
+    (subst (λ c. IsOp p (at.Memory x) (c ∷ []) (memory_op x)) (sym closed) (refl, refl))
+
+two_closed : (p : Profile) (bytes : List ℕ) (i k : ℕ) → i + 1 < length bytes → i + 2 ≡ k → slice_index bytes i ≡ 0x00 → slice_index bytes (i + 1) ≡ 0x00 → IsOp p at.FirstZero (slice_range bytes i k) (memory_op memories.Copy)
+two_closed p bytes i k within next first second =
+    subst (λ (y : List ℕ). IsOp p at.FirstZero y (memory_op memories.Copy)) (sym (range_first bytes i k (omega arith) (omega arith)))
+    (subst (λ c. IsOp p at.FirstZero (c ∷ slice_range bytes (i + 1) k) (memory_op memories.Copy)) (sym first) (closed_at p bytes (i + 1) k memories.Copy within (omega arith) second))
+
+-- the op behind FC: alone, or with its zeros
+module _ (p : Profile) (bytes : List ℕ) (i depth : ℕ) (within : i + 1 < length bytes) (has : IsTrue (has_prefix p)) (first : slice_index bytes i ≡ 0xFC) (small : slice_index bytes (i + 1) < 0x80) where
+  pub behind_alone : (x : Simple) → class.Plain (op.Simple x) ≡ class_under p (0x100 + slice_index bytes (i + 1)) → OpUnder p bytes i (i + 2) depth depth (op.Simple x)
+  behind_alone x is = record {
+    some = omega arith;
+    within = omega arith;
+    spelled = prefixed p bytes i (i + 2) (class.Plain (op.Simple x)) (op.Simple x) within (omega arith) has first small is (refl, none);
+    opens = refl;
+  }
+    where
+      none : slice_range bytes (i + 2) (i + 2) ≡ []
+      none = ap (λ n. take n (drop (i + 2) bytes)) (let e : (i + 2) - (i + 2) ≡ 0 = omega arith in e)
+
+  pub behind_fill : class.With kinds.MemoryFill ≡ class_under p (0x100 + slice_index bytes (i + 1)) → i + 2 < length bytes → slice_index bytes (i + 2) ≡ 0x00 → OpUnder p bytes i (i + 3) depth depth (memory_op memories.Fill)
+  behind_fill is more closed = record {
+    some = omega arith;
+    within = omega arith;
+    spelled = prefixed p bytes i (i + 3) (class.With kinds.MemoryFill) (memory_op memories.Fill) within (omega arith) has first small is (closed_at p bytes (i + 2) (i + 3) memories.Fill more (omega arith) closed);
+    opens = refl;
+  }
+
+  pub behind_copy : class.With kinds.MemoryCopy ≡ class_under p (0x100 + slice_index bytes (i + 1)) → i + 3 < length bytes → slice_index bytes (i + 2) ≡ 0x00 → slice_index bytes (i + 3) ≡ 0x00
+      → OpUnder p bytes i (i + 4) depth depth (memory_op memories.Copy)
+  behind_copy is more closed next =
+      let three : i + 3 ≡ (i + 2) + 1 = omega arith in record {
+        some = omega arith;
+        within = omega arith;
+        spelled = prefixed p bytes i (i + 4) (class.With kinds.MemoryCopy) (memory_op memories.Copy) within (omega arith) has first small is
+            (two_closed p bytes (i + 2) (i + 4) (omega arith) (omega arith) closed (subst (λ n. slice_index bytes n ≡ 0x00) three next));
+        opens = refl;
+      }
 
 -- the bytes of a float
 more_32 : (p : Profile) (bytes : List ℕ) (i j k left low : ℕ) (o : Op) → i < length bytes → i < k → i + 1 ≡ j
@@ -249,7 +347,7 @@ under_float_32 p bytes i depth one two three bits within is a b c d =
     record {
       some = omega arith;
       within = omega arith;
-      spelled = first_under p bytes i (i + 5) (at.Float32 3 0) o (omega arith) (omega arith) (ap first_step is) first;
+      spelled = first_under p bytes i (i + 5) (at.Float32 3 0) o (omega arith) (omega arith) (ap class_step is) first;
       opens = refl;
     }
 
@@ -270,7 +368,7 @@ under_float_64 p bytes i depth one two three four five six seven bits within is 
     record {
       some = omega arith;
       within = omega arith;
-      spelled = first_under p bytes i (i + 9) (at.Float64 7 0) o (omega arith) (omega arith) (ap first_step is) at_one;
+      spelled = first_under p bytes i (i + 9) (at.Float64 7 0) o (omega arith) (omega arith) (ap class_step is) at_one;
       opens = refl;
     }
 

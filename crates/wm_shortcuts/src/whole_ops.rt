@@ -2,15 +2,17 @@
 //!
 //! Rare ops, and bytes that the format refuses, take the slow path.
 
-ghost use Rattle.std.specs.Prelude.{◌≡◌, ◌+◌, ◌<◌, ◌≤◌, ◌^◌, ℕ, IfSome, Some, length, slice_index};
+ghost use Rattle.std.specs.Prelude.{◌≡◌, ◌+◌, ◌<◌, ◌≤◌, ◌^◌, ℕ, IfSome, IsTrue, Some, length};
+ghost use Rattle.std.specs.Prelude.{slice_index, slice_range};
+ghost use Rattle.wm_syntax.specs.Profiles.{has_prefix};
 ghost use Rattle.wm_syntax.specs.declared.profile.Profile.{Profile};
 ghost use Rattle.wm_syntax.specs.exact.Reading.{fresh};
 ghost use Rattle.wm_machine.specs.declared.step.reading.Reading.TheVariants.{More};
-ghost use Rattle.wm_machine.specs.declared.step.ops.InOp.TheVariants.{BlockType, CallType, Const32};
+ghost use Rattle.wm_machine.specs.declared.step.ops.InOp.TheVariants.{BlockType, CallTable, Const32};
 ghost use Rattle.wm_machine.specs.declared.step.ops.InOp.TheVariants.{Const64, Memory};
-ghost use Rattle.wm_machine.specs.exact.OpSteps.{access_class, fresh_index, index_op};
+ghost use Rattle.wm_machine.specs.exact.OpSteps.{access_class, call_op, fresh_index, index_op};
 ghost use Rattle.wm_machine.specs.exact.ExpressionSteps.{after_op, at_next_op};
-ghost use Rattle.wm_shortcuts.specs.exact.WholeOps.{GaveAs, OpUnder, RanTo, TookAs, WholeOp};
+ghost use Rattle.wm_shortcuts.specs.exact.WholeOps.{GaveAs, IsOp, OpUnder, RanTo, TookAs, WholeOp};
 ghost use Rattle.wm_shortcuts.specs.exact.WholeOps.{class_row, first_read};
 
 use crate::op_groups::{
@@ -20,10 +22,11 @@ use crate::op_groups::{
 use crate::whole_numbers::{s32_at, s64_at, u32_at};
 use wm_machine::item::Item;
 use wm_machine::sink::Sink;
-use wm_machine::step::ops::{BlockOp, Indexed, LoadOrStore, Sizing, push_32, push_64};
+use wm_machine::step::ops::{BlockOp, Indexed, LoadOrStore, MemoryOp, push_32, push_64};
 use wm_syntax::instructions::FloatType::{F32, F64};
 use wm_syntax::instructions::IntType::{I32, I64};
 use wm_syntax::instructions::op_class::{Immediates, OpClass};
+use wm_syntax::instructions::opcodes::op_behind;
 use wm_syntax::instructions::{LoadOp, MemArg, Numeric, Op, Simple, StoreOp};
 use wm_syntax::profile::{Feature, Profile};
 use wm_syntax::types::ValType;
@@ -193,27 +196,63 @@ fn with_type(bytes: &[u8], at: usize, depth: u32, op: BlockOp) -> Option<Read>
     })
 }
 
-// Reads a `call_indirect`, which ends with the byte 00
+// Reads a `call_indirect`: a type index, and the table index 0
 #[inline(always)]
-fn call_indirect(bytes: &[u8], at: usize, depth: u32) -> Option<Read>
+fn call_indirect(profile: Profile, bytes: &[u8], at: usize, depth: u32) -> Option<Read>
     requires within { at + 1 < length bytes.now }
-    requires first { (p : Profile) → first_read p (slice_index bytes.now at) ≡ More (CallType fresh) }
-    ensures { IfSome result (λ r. WholeOp bytes.now at r.next depth r.depth r.op) }
+    requires class { class_row profile (slice_index bytes.now at) ≡ OpClass.With Immediates.CallIndirect }
+    ensures { IfSome result (λ r. OpUnder profile bytes.now at r.next depth r.depth r.op) }
 {
     let ty = u32_at(bytes, at + 1)?;
-    if ty.next >= bytes.len() || bytes[ty.next] != 0x00 {
-        return None;
-    }
+    let next = table_end(profile, bytes, ty.next)?;
     Some(Read {
         op: Op::Simple(Simple::CallIndirect(ty.value)),
-        next: ty.next + 1,
+        next,
         depth,
     })
 }
 
-// Reads a `memory.size` or `memory.grow`, which ends with the byte 00
+// Returns the index after the table index of a `call_indirect`, which begins at the index `at`
 #[inline(always)]
-fn memory(bytes: &[u8], at: usize, depth: u32, op: Sizing) -> Option<Read>
+#[tactic(auto, using(crate::proofs::OpLists::table_of_one))]
+fn table_end(profile: Profile, bytes: &[u8], at: usize) -> Option<usize>
+    ensures within { IfSome result (λ next. (at < next) × (next ≤ length bytes.now)) }
+    ensures table { IfSome result (λ next. (n : ℕ)
+        → IsOp profile (CallTable n 4) (slice_range bytes.now at next) (call_op n)) }
+{
+    if at >= bytes.len() {
+        return None;
+    }
+    if bytes[at] == 0x00 {
+        return Some(at + 1);
+    }
+    long_table_end(profile, bytes, at)
+}
+
+// Does the same for a table index of five bytes, which compilers leave room for. All other encodings take the slow path
+#[inline(never)]
+#[tactic(auto, using(crate::proofs::OpLists::table_of_five))]
+fn long_table_end(profile: Profile, bytes: &[u8], at: usize) -> Option<usize>
+    requires { at < length bytes.now }
+    ensures within { IfSome result (λ next. (at < next) × (next ≤ length bytes.now)) }
+    ensures table { IfSome result (λ next. (n : ℕ)
+        → IsOp profile (CallTable n 4) (slice_range bytes.now at next) (call_op n)) }
+{
+    if !profile.has(Feature::LongIndex) || bytes.len() - at < 5 {
+        return None;
+    }
+    if bytes[at] != 0x80 || bytes[at + 1] != 0x80 || bytes[at + 2] != 0x80 {
+        return None;
+    }
+    if bytes[at + 3] != 0x80 || bytes[at + 4] != 0x00 {
+        return None;
+    }
+    Some(at + 5)
+}
+
+// Reads a memory instruction whose immediate is a byte 00
+#[inline(always)]
+fn memory(bytes: &[u8], at: usize, depth: u32, op: MemoryOp) -> Option<Read>
     requires within { at + 1 < length bytes.now }
     requires first { (p : Profile) → first_read p (slice_index bytes.now at) ≡ More (Memory op) }
     ensures { IfSome result (λ r. WholeOp bytes.now at r.next depth r.depth r.op) }
@@ -224,6 +263,37 @@ fn memory(bytes: &[u8], at: usize, depth: u32, op: Sizing) -> Option<Read>
     Some(Read {
         op: op.op(),
         next: at + 2,
+        depth,
+    })
+}
+
+// Reads an instruction behind the byte FC whose number is one byte
+#[tactic(auto, using(crate::proofs::OpLists::behind_alone))]
+fn prefixed(profile: Profile, bytes: &[u8], at: usize, depth: u32) -> Option<Read>
+    requires within { at + 1 < length bytes.now }
+    requires prefix { IsTrue (has_prefix profile) }
+    requires first { slice_index bytes.now at ≡ 0xFC }
+    ensures { IfSome result (λ r. OpUnder profile bytes.now at r.next depth r.depth r.op) }
+{
+    let number = bytes[at + 1];
+    if number >= 0x80 {
+        return None;
+    }
+    let left = bytes.len() - at;
+    let (op, next) = match op_behind(profile, u32::from(number)) {
+        OpClass::Plain(Op::Simple(simple)) => (simple, at + 2),
+        OpClass::With(Immediates::MemoryFill) if left > 2 && bytes[at + 2] == 0x00 => {
+            (Simple::MemoryFill, at + 3)
+        }
+        OpClass::With(Immediates::MemoryCopy)
+            if left > 3 && bytes[at + 2] == 0x00 && bytes[at + 3] == 0x00 => {
+            (Simple::MemoryCopy, at + 4)
+        }
+        _ => return None,
+    };
+    Some(Read {
+        op: Op::Simple(op),
+        next,
         depth,
     })
 }
@@ -289,19 +359,41 @@ fn give<S: Sink>(sink: &mut S, room: usize, read: Option<Read>) -> Took
     }
 }
 
+// Takes the instruction behind the byte FC at the index `at`. Out of line, since no other op of `take_uncommon` needs
+// the class of a number
+#[inline(never)]
+#[tactic(auto, using(crate::proofs::OpLists::gave_took))]
+fn take_prefixed<S: Sink>(
+    sink: &mut S,
+    profile: &Profile,
+    bytes: &[u8],
+    at: usize,
+    depth: u32,
+    room: usize,
+) -> Took
+    requires within { at + 1 < length bytes.now }
+    requires first { slice_index bytes.now at ≡ 0xFC }
+    ensures { TookAs S.after profile.now (S.held sink.old) bytes.now at depth room result (S.held sink.new) }
+{
+    if !profile.has_prefix() {
+        return Took::Left;
+    }
+    give(sink, room, prefixed(*profile, bytes, at, depth))
+}
+
 // Takes the op on floats at the index `at`
 #[inline(never)]
 #[tactic(auto, using(crate::proofs::OpLists::gave_took))]
 fn take_float<S: Sink>(
     sink: &mut S,
-    profile: Profile,
+    profile: &Profile,
     bytes: &[u8],
     at: usize,
     depth: u32,
     room: usize,
 ) -> Took
     requires { at + 1 < length bytes.now }
-    ensures { TookAs S.after profile (S.held sink.old) bytes.now at depth room result (S.held sink.new) }
+    ensures { TookAs S.after profile.now (S.held sink.old) bytes.now at depth room result (S.held sink.new) }
 {
     if !profile.has(Feature::Floats) {
         return Took::Left;
@@ -310,53 +402,53 @@ fn take_float<S: Sink>(
     match byte {
         0x2A => {
             let op = LoadOrStore::Load(LoadOp::F32Load);
-            give(sink, room, access(profile, bytes, at, depth, op))
+            give(sink, room, access(*profile, bytes, at, depth, op))
         }
         0x2B => {
             let op = LoadOrStore::Load(LoadOp::F64Load);
-            give(sink, room, access(profile, bytes, at, depth, op))
+            give(sink, room, access(*profile, bytes, at, depth, op))
         }
         0x38 => {
             let op = LoadOrStore::Store(StoreOp::F32Store);
-            give(sink, room, access(profile, bytes, at, depth, op))
+            give(sink, room, access(*profile, bytes, at, depth, op))
         }
         0x39 => {
             let op = LoadOrStore::Store(StoreOp::F64Store);
-            give(sink, room, access(profile, bytes, at, depth, op))
+            give(sink, room, access(*profile, bytes, at, depth, op))
         }
-        0x43 => give(sink, room, float_32(profile, bytes, at, depth)),
-        0x44 => give(sink, room, float_64(profile, bytes, at, depth)),
+        0x43 => give(sink, room, float_32(*profile, bytes, at, depth)),
+        0x44 => give(sink, room, float_64(*profile, bytes, at, depth)),
         0x5B..=0x60 => {
             let op = Numeric::FloatCompare(F32, float_comparison(byte));
-            give(sink, room, numeric(profile, bytes, at, depth, op))
+            give(sink, room, numeric(*profile, bytes, at, depth, op))
         }
         0x61..=0x66 => {
             let op = Numeric::FloatCompare(F64, float_comparison(byte));
-            give(sink, room, numeric(profile, bytes, at, depth, op))
+            give(sink, room, numeric(*profile, bytes, at, depth, op))
         }
         0x8B..=0x91 => {
             let op = Numeric::FloatUnary(F32, float_unary(byte));
-            give(sink, room, numeric(profile, bytes, at, depth, op))
+            give(sink, room, numeric(*profile, bytes, at, depth, op))
         }
         0x92..=0x98 => {
             let op = Numeric::FloatBinary(F32, float_binary(byte));
-            give(sink, room, numeric(profile, bytes, at, depth, op))
+            give(sink, room, numeric(*profile, bytes, at, depth, op))
         }
         0x99..=0x9F => {
             let op = Numeric::FloatUnary(F64, float_unary(byte));
-            give(sink, room, numeric(profile, bytes, at, depth, op))
+            give(sink, room, numeric(*profile, bytes, at, depth, op))
         }
         0xA0..=0xA6 => {
             let op = Numeric::FloatBinary(F64, float_binary(byte));
-            give(sink, room, numeric(profile, bytes, at, depth, op))
+            give(sink, room, numeric(*profile, bytes, at, depth, op))
         }
         0xA8..=0xAB => {
             let op = Numeric::Convert(conversion(byte));
-            give(sink, room, numeric(profile, bytes, at, depth, op))
+            give(sink, room, numeric(*profile, bytes, at, depth, op))
         }
         0xAE..=0xBF => {
             let op = Numeric::Convert(conversion(byte));
-            give(sink, room, numeric(profile, bytes, at, depth, op))
+            give(sink, room, numeric(*profile, bytes, at, depth, op))
         }
         _ => Took::Left,
     }
@@ -439,83 +531,84 @@ fn take_common<S: Sink>(
 #[tactic(auto, using(crate::proofs::OpLists::gave_took, crate::proofs::OpLists::gave_whole))]
 fn take_uncommon<S: Sink>(
     sink: &mut S,
-    profile: Profile,
+    profile: &Profile,
     bytes: &[u8],
     at: usize,
     depth: u32,
     room: usize,
 ) -> Took
     requires { at + 1 < length bytes.now }
-    ensures { TookAs S.after profile (S.held sink.old) bytes.now at depth room result (S.held sink.new) }
+    ensures { TookAs S.after profile.now (S.held sink.old) bytes.now at depth room result (S.held sink.new) }
 {
     let byte = bytes[at];
     match byte {
         0x00 => {
             let op = Op::Simple(Simple::Unreachable);
-            give(sink, room, alone(profile, bytes, at, depth, op))
+            give(sink, room, alone(*profile, bytes, at, depth, op))
         }
-        0x11 => give(sink, room, call_indirect(bytes, at, depth)),
+        0x11 => give(sink, room, call_indirect(*profile, bytes, at, depth)),
         0x1B => {
             let op = Op::Simple(Simple::Select);
-            give(sink, room, alone(profile, bytes, at, depth, op))
+            give(sink, room, alone(*profile, bytes, at, depth, op))
         }
         0x29 => {
             let op = LoadOrStore::Load(LoadOp::I64Load);
-            give(sink, room, access(profile, bytes, at, depth, op))
+            give(sink, room, access(*profile, bytes, at, depth, op))
         }
         0x2C..=0x2F => {
             let op = LoadOrStore::Load(narrow_load(byte));
-            give(sink, room, access(profile, bytes, at, depth, op))
+            give(sink, room, access(*profile, bytes, at, depth, op))
         }
         0x30..=0x35 => {
             let op = LoadOrStore::Load(narrow_load(byte));
-            give(sink, room, access(profile, bytes, at, depth, op))
+            give(sink, room, access(*profile, bytes, at, depth, op))
         }
         0x37 => {
             let op = LoadOrStore::Store(StoreOp::I64Store);
-            give(sink, room, access(profile, bytes, at, depth, op))
+            give(sink, room, access(*profile, bytes, at, depth, op))
         }
         0x3A..=0x3E => {
             let op = LoadOrStore::Store(narrow_store(byte));
-            give(sink, room, access(profile, bytes, at, depth, op))
+            give(sink, room, access(*profile, bytes, at, depth, op))
         }
-        0x3F => give(sink, room, memory(bytes, at, depth, Sizing::Size)),
-        0x40 => give(sink, room, memory(bytes, at, depth, Sizing::Grow)),
+        0x3F => give(sink, room, memory(bytes, at, depth, MemoryOp::Size)),
+        0x40 => give(sink, room, memory(bytes, at, depth, MemoryOp::Grow)),
         0x50 => {
             let op = Numeric::Test(I64);
-            give(sink, room, numeric(profile, bytes, at, depth, op))
+            give(sink, room, numeric(*profile, bytes, at, depth, op))
         }
         0x51..=0x5A => {
             let op = Numeric::Compare(I64, comparison(byte));
-            give(sink, room, numeric(profile, bytes, at, depth, op))
+            give(sink, room, numeric(*profile, bytes, at, depth, op))
         }
         0x67..=0x69 => {
             let op = Numeric::Unary(I32, unary(byte));
-            give(sink, room, numeric(profile, bytes, at, depth, op))
+            give(sink, room, numeric(*profile, bytes, at, depth, op))
         }
         0x79..=0x7B => {
             let op = Numeric::Unary(I64, unary(byte));
-            give(sink, room, numeric(profile, bytes, at, depth, op))
+            give(sink, room, numeric(*profile, bytes, at, depth, op))
         }
         0xA7 => {
             let op = Numeric::Wrap;
-            give(sink, room, numeric(profile, bytes, at, depth, op))
+            give(sink, room, numeric(*profile, bytes, at, depth, op))
         }
         0xAC => {
             let op = Numeric::ExtendS;
-            give(sink, room, numeric(profile, bytes, at, depth, op))
+            give(sink, room, numeric(*profile, bytes, at, depth, op))
         }
         0xAD => {
             let op = Numeric::ExtendU;
-            give(sink, room, numeric(profile, bytes, at, depth, op))
+            give(sink, room, numeric(*profile, bytes, at, depth, op))
         }
         0xC0..=0xC4 => {
             if !profile.has(Feature::SignExtension) {
                 return Took::Left;
             }
             let op = Numeric::SignExtend(sign_extension(byte));
-            give(sink, room, numeric(profile, bytes, at, depth, op))
+            give(sink, room, numeric(*profile, bytes, at, depth, op))
         }
+        0xFC => take_prefixed(sink, profile, bytes, at, depth, room),
         _ => take_float(sink, profile, bytes, at, depth, room),
     }
 }
@@ -563,7 +656,7 @@ pub(crate) fn take_ops<S: Sink>(
             Took::Refused(why, next) => return refused(next, depth, why),
         }
         // called here and not from `take_common`, whose result then does not lie in memory
-        match take_uncommon(sink, profile, bytes, used, depth, room) {
+        match take_uncommon(sink, &profile, bytes, used, depth, room) {
             Took::Next(next, inside) => {
                 used = next;
                 depth = inside;

@@ -32,7 +32,7 @@ use Rattle.wm_syntax.specs.declared.instructions.op_class.OpClass.TheVariants.{P
 use Rattle.wm_syntax.specs.declared.profile.Feature.TheVariants.{Base}
 use Rattle.wm_syntax.specs.exact.ByteTable.{class_feature, classes, row_in}
 use Rattle.wm_machine.specs.declared.step.ops.LoadOrStore.{LoadOrStore}
-use Rattle.wm_machine.specs.exact.OpSteps.{access_class, op_push, first_step}
+use Rattle.wm_machine.specs.exact.OpSteps.{access_class, class_step, op_push}
 use Rattle.wm_machine.specs.exact.ExpressionSteps.{at_next_op, after_op}
 
 -- after a byte of a number: the number v is complete and no byte follows, or the rest continues it
@@ -67,11 +67,11 @@ pub record LiesAt {T : Type 0} (push : Partial → ℕ → Step T × Partial) (b
 abbrev pub one_signed : ℕ → ℤ
 one_signed c = if nat_lt c (2 ^ 6) then pos c else pos c -ℤ pos (2 ^ 7)
 
--- the class of ops that a byte begins under a profile, as its row of the table says
+-- the class of ops whose code is this byte under a profile, as its row of the table says
 abbrev pub class_row : Profile → ℕ → OpClass
 class_row p byte = row_in p (slice_get classes byte)
 
--- the byte's row has this numeric op, whichever profiles have it
+-- the row of the byte has this numeric op, whichever profiles have it
 abbrev pub HasNumeric : ℕ → Numeric → Type 0
 HasNumeric byte o = slice_get classes byte ≡ Some (Plain (op.Simple (s.Numeric o)))
 
@@ -79,9 +79,9 @@ HasNumeric byte o = slice_get classes byte ≡ Some (Plain (op.Simple (s.Numeric
 abbrev pub HasAccess : ℕ → LoadOrStore → Type 0
 HasAccess byte a = (slice_get classes byte ≡ Some (access_class a)) × (class_feature (access_class a) ≡ Base)
 
--- the result of the reader of an op after this first byte
+-- the result of the reader of an op after this first byte, if it is not FC
 abbrev pub first_read : Profile → ℕ → Reading InOp Op
-first_read p c = first_step (class_row p c)
+first_read p c = class_step (class_row p c)
 
 -- an op of every profile lies in the list from `start` up to `next`; before it `depth` blocks are open, after it
 -- `inside`

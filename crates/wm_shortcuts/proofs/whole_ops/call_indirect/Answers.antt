@@ -1,8 +1,8 @@
-use Rattle.std.proofs.Common.{arith}
-use Rattle.wm_shortcuts.proofs.OpLists.{whole_call_indirect}
+use Rattle.wm_shortcuts.proofs.OpLists.{under_call_indirect}
 use Rattle.wm_shortcuts.proofs.whole_ops.call_indirect.Goals as goal
 
 pub returns : goal.returns
 returns c =
     let ty = c.in_ok-ty.ty in
-    whole_call_indirect c.args.bytes.now c.args.at ty.next c.args.depth ty.value c.requires.first c.in_ok-ty.ensures (omega arith) (omega arith)
+    let next = c.in_ok-next.next in
+    under_call_indirect c.args.profile c.args.bytes.now c.args.at ty.next next c.args.depth ty.value c.requires.class c.in_ok-ty.ensures c.in_ok-next.ensures.within.0 c.in_ok-next.ensures.within.1 c.in_ok-next.ensures.table
