@@ -67,18 +67,18 @@ section_of (Some q) = q.0
 one_id : (i id : ℕ) (x a : Awaits) (b : List ℕ) → spot i x ≡ spot id a → LiesIn i b → LiesIn id b
 one_id i id x a b e h = let same : i ≡ id = ap section_of e in subst (λ n. LiesIn n b) same h
 
-by_machine : (m : Machine) (b : List ℕ) (id : ℕ) (a : Awaits) → Fits m → Framed m b → spot_in m ≡ Some (id, a) → LiesIn id b
-by_machine (machine.Header n) b id a fits h e = absurd (cc)
-by_machine (machine.Between last functions) b id a fits h e = absurd (cc)
-by_machine (machine.CustomSize last functions r) b id a fits h e = one_id 0 id _ a b e (in_size last 0 r b fits.0 h.0)
-by_machine (machine.Custom last functions more q) b id a fits h e = one_id 0 id _ a b e (in_contents last 0 more b h.0)
-by_machine (machine.Size of functions r) b id a fits h e = one_id (id_of of) id _ a b e (in_size h.0 (id_of of) r b fits.0 h.2)
-by_machine (machine.Count of functions more r) b id a fits h e = one_id (id_of of) id _ a b e (in_contents h.0 (id_of of) more b h.2)
-by_machine (machine.Section of functions more left q) b id a fits h e = one_id (id_of of) id _ a b e (in_contents h.0 (id_of of) more b h.2)
-by_machine (machine.Refused w) b id a fits h e = absurd (cc)
+by_machine : (p : Profile) (m : Machine) (b : List ℕ) (id : ℕ) (a : Awaits) → Fits p m → Framed m b → spot_in m ≡ Some (id, a) → LiesIn id b
+by_machine p (machine.Header n) b id a fits h e = absurd (cc)
+by_machine p (machine.Between last functions) b id a fits h e = absurd (cc)
+by_machine p (machine.CustomSize last functions r) b id a fits h e = one_id 0 id _ a b e (in_size last 0 r b fits.0 h.0)
+by_machine p (machine.Custom last functions more q) b id a fits h e = one_id 0 id _ a b e (in_contents last 0 more b h.0)
+by_machine p (machine.Size of functions r) b id a fits h e = one_id (id_of of) id _ a b e (in_size h.0 (id_of of) r b fits.0 h.2)
+by_machine p (machine.Count of functions more r) b id a fits h e = one_id (id_of of) id _ a b e (in_contents h.0 (id_of of) more b h.2)
+by_machine p (machine.Section of functions more left q) b id a fits h e = one_id (id_of of) id _ a b e (in_contents h.0 (id_of of) more b h.2)
+by_machine p (machine.Refused w) b id a fits h e = absurd (cc)
 
 -- the machine after any bytes
-framed : (p : Profile) (m : Machine) (before b : List ℕ) → AreBytes b → Fits m → Framed m before → Fits (machine_from p m b) × Framed (machine_from p m b) (before ++ b)
+framed : (p : Profile) (m : Machine) (before b : List ℕ) → AreBytes b → Fits p m → Framed m before → Fits p (machine_from p m b) × Framed (machine_from p m b) (before ++ b)
 framed p m before [] a fits f = (fits, subst (λ y. Framed m y) (sym (append-nil before)) f)
 framed p m before (c ∷ b) a fits f =
     let r = framed p (step_of p m c).0 (before ++ c ∷ []) b a.1 (step_fits p m c a.0 fits) (step_framed p m c before a.0 f) in
@@ -88,4 +88,4 @@ pub lies_in : (p : Profile) (b : List ℕ) (id : ℕ) (a : Awaits) → AreBytes 
 lies_in p b id a bytes e =
     let low : 0 < 8 = omega arith in
     let r = framed p (machine.Header 0) [] b bytes low (low, refl) in
-    by_machine (machine_from p (machine.Header 0) b) b id a r.0 r.1 e
+    by_machine p (machine_from p (machine.Header 0) b) b id a r.0 r.1 e

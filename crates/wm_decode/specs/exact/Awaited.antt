@@ -64,8 +64,11 @@ awaits_in_value (value.Export d) = awaits_in_export d
 
 abbrev pub awaits_in_op : InOp → Awaits
 awaits_in_op op.First = awaits.Opcode
+awaits_in_op op.Code = awaits.OpcodeNumber
+awaits_in_op (op.Padding n left) = awaits.Number
 awaits_in_op (op.BlockType b) = awaits.BlockType
-awaits_in_op (op.CallTable t) = awaits.TableByte
+awaits_in_op (op.CallTable t left) = awaits.TableByte
+awaits_in_op op.FirstZero = awaits.MemoryByte
 awaits_in_op (op.Memory m) = awaits.MemoryByte
 awaits_in_op (op.Float32 left bits) = awaits.Any
 awaits_in_op (op.Float64 left bits) = awaits.Any

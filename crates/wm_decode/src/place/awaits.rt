@@ -35,9 +35,11 @@ pub enum Awaits {
     Mutability,
     /// The first byte of an instruction. Core spec 5.4.
     Opcode,
-    /// The byte 00 that ends a `call_indirect`. Core spec 5.4.1.
+    /// The table index at the end of a `call_indirect`. Core spec 5.4.1.
     TableByte,
-    /// The byte 00 that ends a `memory.size` or `memory.grow`. Core spec 5.4.4.
+    /// The number behind the byte FC of an instruction: its first byte. WebAssembly 2.0, 5.4.
+    OpcodeNumber,
+    /// A byte 00 of a memory instruction. Core spec 5.4.4, WebAssembly 2.0 5.4.6.
     MemoryByte,
     /// The kind of an import or an export. Core spec 5.5.5 and 5.5.10.
     Kind,
@@ -109,11 +111,12 @@ fn in_op(at: InOp) -> Awaits
 {
     match at {
         InOp::First => Awaits::Opcode,
+        InOp::Code => Awaits::OpcodeNumber,
         InOp::BlockType(_) => Awaits::BlockType,
         InOp::CallTable { .. } => Awaits::TableByte,
-        InOp::Memory(_) => Awaits::MemoryByte,
+        InOp::FirstZero | InOp::Memory(_) => Awaits::MemoryByte,
         InOp::Float32 { .. } | InOp::Float64 { .. } => Awaits::Any,
-        InOp::Index { .. } | InOp::CallType(_) => Awaits::Number,
+        InOp::Padding { .. } | InOp::Index { .. } | InOp::CallType(_) => Awaits::Number,
         InOp::Const32(_) | InOp::Const64(_) => Awaits::Number,
         InOp::Align { .. } | InOp::Offset { .. } => Awaits::Number,
     }
