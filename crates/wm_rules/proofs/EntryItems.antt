@@ -5,9 +5,6 @@ use Rattle.std.specs.List.{AllByRecursion}
 use Rattle.wm_syntax.specs.declared.profile.Profile.{Profile}
 use Rattle.wm_syntax.specs.declared.types.ValType.{ValType}
 use Rattle.wm_syntax.specs.declared.instructions.Op.{Op}
-use Rattle.wm_syntax.specs.declared.instructions.Op.TheVariants as op
-use Rattle.wm_syntax.specs.Instructions.{SpellsOp}
-use Rattle.wm_syntax.specs.Opcodes.{opcode}
 use Rattle.wm_syntax.specs.Types.{type_byte}
 use Rattle.wm_syntax.proofs.ProfileLaws.{all_append}
 use Rattle.wm_machine.specs.Flat.{code_items}
@@ -17,7 +14,7 @@ use Rattle.wm_machine.specs.Items.{Item, Zone, outside, name, Mark, Marks, new_t
 use Rattle.wm_machine.specs.MarkedForms.{MarkedForm, Index, Then, marks_ending, name_byte_marks, name_marks, entry_marks, outside_mark}
 use Rattle.wm_machine.proofs.ReadValues.{HasByte, byte_some, front_some, number_some, parts-append, parts-entered, parts-some}
 use Rattle.wm_machine.proofs.EntryBytes.{run_part}
-use Rattle.wm_machine.proofs.GrammarValues.{reads_body}
+use Rattle.wm_machine.proofs.GrammarValues.{op_some, reads_body}
 use Rattle.wm_rules.specs.Meanings.{InEntry}
 use Rattle.wm_rules.proofs.EveryRule.{Has, IsAlone, IsNamed, Leaves, PassesMembers, has_index, has_leaf, has_members, has_number, has_then, has_times, has_vector}
 
@@ -303,27 +300,17 @@ named_stood text (body_op o) i = absurd i
 named_stood text y i = tt
 
 -- the items of a constant
-op_some : (o : Op) (b : List ℕ) → SpellsOp o b → HasByte b
-op_some (op.Simple i) b h = front_some b h.0 h.1 h.2 (byte_some (opcode i).0 h.0 h.3)
-op_some (op.Block t) b h = front_some b h.0 h.1 h.2 (byte_some 0x02 h.0 h.3)
-op_some (op.Loop t) b h = front_some b h.0 h.1 h.2 (byte_some 0x03 h.0 h.3)
-op_some (op.If t) b h = front_some b h.0 h.1 h.2 (byte_some 0x04 h.0 h.3)
-op_some op.Else b h = byte_some 0x05 b h
-op_some op.End b h = byte_some 0x0B b h
-op_some (op.BrTable n) b h = front_some b h.0 h.1 h.2 (byte_some 0x0E h.0 h.3)
-op_some (op.Label l) b h = number_some l b h
-
-ops_told : (ops : List Op) (b : List ℕ) (k : Marks) → EachOp const_op ops b k → items_at k ≡ map const_op ops
-ops_told [] b k h = ap items_at h.1
-ops_told (o ∷ ops) b k h =
-    let v = ops_told ops h.back h.back_marks h.second in
-    let e = parts-some (Some (const_op o)) h.front (op_some o h.front h.first.0) in
+ops_told : (p : Profile) (ops : List Op) (b : List ℕ) (k : Marks) → EachOp p const_op ops b k → items_at k ≡ map const_op ops
+ops_told p [] b k h = ap items_at h.1
+ops_told p (o ∷ ops) b k h =
+    let v = ops_told p ops h.back h.back_marks h.second in
+    let e = parts-some (Some (const_op o)) h.front (op_some p o h.front h.first.0) in
     ap items_at h.marks ∙ (parts-append h.front_marks h.back_marks ∙ cc (ap items_at h.first.1, e, v))
 
 constant_comes : (p : Profile) (opening : Item) (front : List ℕ) → IsOpening opening → HasByte front → (b : List ℕ) (k : Marks) → Expression p const_op b k → Comes (marks_ending (Some opening) front ++ k)
 constant_comes p opening front a some b k h =
     of_items (marks_ending (Some opening) front ++ k) (opening ∷ map const_op h.0)
-    (parts-append (marks_ending (Some opening) front) k ∙ cc (parts-some (Some opening) front some, ops_told h.0 b k h.3))
+    (parts-append (marks_ending (Some opening) front) k ∙ cc (parts-some (Some opening) front some, ops_told p h.0 b k h.3))
     (constant_stood opening h.0 a h.1)
 
 comes_leaves : Leaves Comes IsAlone

@@ -4,7 +4,7 @@ use Rattle.std.proofs.Common.{◌≡◌, ℕ, zero, suc, List, [], ◌∷◌, �
 use Rattle.wm_syntax.specs.declared.instructions.Op.{Op}
 use Rattle.wm_syntax.specs.declared.profile.Profile.{Profile}
 use Rattle.wm_syntax.specs.Types.{SpellsU32}
-use Rattle.wm_syntax.specs.Instructions.{SpellsOp}
+use Rattle.wm_syntax.specs.Encodings.{SpellsOp}
 use Rattle.wm_syntax.specs.Spelling.{Form}
 use Rattle.wm_machine.specs.Items.{Item, new_type, param, one_result, import_module, import_name, import_desc, function, table, memory, global, const_op, export_name, start, element, element_function, body, locals, body_op, segment, data_byte, Marks}
 use Rattle.wm_machine.specs.Sections.{header}
@@ -147,9 +147,9 @@ module _ (demanded : Type 0) (p : Profile) (T : Marks → Type 0) (t : Passes de
   plain_leaves : Leaves T IsPlain
   plain_leaves = record { none = t.none; both = t.both; nothing = tt; plain = t.plain }
 
-  has_ops : (ops : List Op) → Has T (EachOp const_op ops)
+  has_ops : (ops : List Op) → Has T (EachOp p const_op ops)
   has_ops [] = has_empty plain_leaves
-  has_ops (o ∷ ops) = has_then plain_leaves {P = λ b k. SpellsOp o b × (k ≡ marks_ending (Some (const_op o)) b)} (λ b k h. subst T (sym h.1) (t.plain (Some (const_op o)) b tt)) (has_ops ops)
+  has_ops (o ∷ ops) = has_then plain_leaves {P = λ b k. SpellsOp p o b × (k ≡ marks_ending (Some (const_op o)) b)} (λ b k h. subst T (sym h.1) (t.plain (Some (const_op o)) b tt)) (has_ops ops)
 
   has_expression : Has T (Expression p const_op)
   has_expression b k h = has_ops h.0 b k h.3

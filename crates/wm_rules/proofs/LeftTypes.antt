@@ -145,6 +145,8 @@ module _ (w : Why) (index : why.Index ≡ w → ⊥) (immutable : why.Immutable 
       (λ g. test_never why.Immutable g.var (fixed (g.ty ∷ []) []) immutable (λ d. cc)) e
   never_ill c simple.MemorySize e = test_never why.Index c.has_memory (fixed [] (I32 ∷ [])) index (λ d. cc) e
   never_ill c simple.MemoryGrow e = test_never why.Index c.has_memory (fixed (I32 ∷ []) (I32 ∷ [])) index (λ d. cc) e
+  never_ill c simple.MemoryCopy e = test_never why.Index c.has_memory (fixed (I32 ∷ I32 ∷ I32 ∷ []) []) index (λ d. cc) e
+  never_ill c simple.MemoryFill e = test_never why.Index c.has_memory (fixed (I32 ∷ I32 ∷ I32 ∷ []) []) index (λ d. cc) e
   never_ill c (simple.I32Const n) e = cc
   never_ill c (simple.I64Const n) e = cc
   never_ill c (simple.F32Const n) e = cc

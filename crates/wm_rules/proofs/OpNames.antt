@@ -213,6 +213,8 @@ module _ (E N : Type 0) where
       (λ g e. true_says c (simple.GlobalSet x) why.Immutable g.var (fixed (g.ty ∷ []) []) (λ v. (g, e, v)) tt)
   shape_says c simple.MemorySize n = true_says c simple.MemorySize why.Index c.has_memory (fixed [] (I32 ∷ [])) n tt
   shape_says c simple.MemoryGrow n = true_says c simple.MemoryGrow why.Index c.has_memory (fixed (I32 ∷ []) (I32 ∷ [])) n tt
+  shape_says c simple.MemoryCopy n = true_says c simple.MemoryCopy why.Index c.has_memory (fixed (I32 ∷ I32 ∷ I32 ∷ []) []) n tt
+  shape_says c simple.MemoryFill n = true_says c simple.MemoryFill why.Index c.has_memory (fixed (I32 ∷ I32 ∷ I32 ∷ []) []) n tt
   shape_says c (simple.I32Const m) n = tt
   shape_says c (simple.I64Const m) n = tt
   shape_says c (simple.F32Const m) n = tt

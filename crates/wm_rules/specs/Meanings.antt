@@ -194,7 +194,7 @@ ConstantNamesNothing globals (op.Simple (simple.GlobalGet x)) = globals ≤ x
 ConstantNamesNothing globals _ = ⊥
 
 -- `Index`, in a body: there is no such label, function, type, local or global, or no table or memory.
--- Core spec 3.3.3 to 3.3.5.
+-- Core spec 3.3.3 to 3.3.5, WebAssembly 2.0 3.3.7.
 abbrev pub OpNamesNothing : Context → Op → Type 0
 OpNamesNothing c (op.Simple (simple.Br l)) = slice_get c.labels l ≡ None
 OpNamesNothing c (op.Simple (simple.BrIf l)) = slice_get c.labels l ≡ None
@@ -207,6 +207,8 @@ OpNamesNothing c (op.Simple (simple.GlobalGet x)) = slice_get c.globals x ≡ No
 OpNamesNothing c (op.Simple (simple.GlobalSet x)) = slice_get c.globals x ≡ None
 OpNamesNothing c (op.Simple simple.MemorySize) = c.has_memory ≡ false
 OpNamesNothing c (op.Simple simple.MemoryGrow) = c.has_memory ≡ false
+OpNamesNothing c (op.Simple simple.MemoryCopy) = c.has_memory ≡ false
+OpNamesNothing c (op.Simple simple.MemoryFill) = c.has_memory ≡ false
 OpNamesNothing c (op.Simple (simple.Load o a)) = c.has_memory ≡ false
 OpNamesNothing c (op.Simple (simple.Store o a)) = c.has_memory ≡ false
 OpNamesNothing c (op.Label l) = slice_get c.labels l ≡ None
