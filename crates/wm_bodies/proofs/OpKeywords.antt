@@ -23,4 +23,4 @@ named_in (c ∷ cs) (suc i) w lt e = named_in cs i w (omega (arith, lt)) e
 pub word_named : (p : Profile) (w name : List ℕ) (byte : ℕ) → byte < 256 → name ≡ slice_index_or names byte [] → name ≡ w → class_under p byte ≡ class_named p w
 unfolding class_under class_named
 word_named p w name byte lt n e =
-    ap (λ (cs : List OpClass). row_in p (slice_get cs byte)) (sym same_classes) ∙ ap (row_in p) (named_in classes byte w lt (sym n ∙ e))
+    ap (λ (cs : List OpClass). row_in p (slice_get cs byte)) (sym same_classes) ∙ ap (row_in p) (named_in classes byte w (omega (arith, lt)) (sym n ∙ e))

@@ -8,11 +8,12 @@ use Rattle.wm_syntax.specs.declared.instructions.MemArg.{MemArg}
 use Rattle.wm_syntax.specs.declared.instructions.IntType.TheVariants.{I32, I64}
 use Rattle.wm_syntax.specs.declared.instructions.FloatType.TheVariants as float
 use Rattle.wm_syntax.specs.declared.instructions.Conversion.TheVariants.{I32TruncF32S}
+use Rattle.wm_syntax.specs.declared.instructions.Saturation.TheVariants.{I32TruncSatF32S}
 use Rattle.wm_syntax.specs.declared.instructions.LoadOp.{LoadOp}
 use Rattle.wm_syntax.specs.declared.instructions.LoadOp.TheVariants.{I32Load, F32Load, F64Load}
 use Rattle.wm_syntax.specs.declared.instructions.StoreOp.{StoreOp}
 use Rattle.wm_syntax.specs.declared.instructions.StoreOp.TheVariants.{I32Store, F32Store, F64Store}
-use Rattle.wm_syntax.specs.declared.instructions.Numeric.TheVariants.{Test, Compare, Unary, Binary, FloatCompare, FloatUnary, FloatBinary, Convert, SignExtend}
+use Rattle.wm_syntax.specs.declared.instructions.Numeric.TheVariants.{Test, Compare, Unary, Binary, FloatCompare, FloatUnary, FloatBinary, Convert, SignExtend, Saturate}
 use Rattle.wm_syntax.specs.declared.instructions.SignExtension.TheVariants.{I32From8}
 use Rattle.wm_syntax.specs.declared.instructions.Op.{Op}
 use Rattle.wm_syntax.specs.declared.instructions.Op.TheVariants as op
@@ -157,6 +158,8 @@ simple_word (s.Numeric (FloatBinary float.F32 o)) = (refl, refl, refl)
 simple_word (s.Numeric (FloatBinary float.F64 o)) = (refl, refl, refl)
 simple_word (s.Numeric (Convert I32TruncF32S)) = (refl, refl, refl)
 simple_word (s.Numeric (Convert _)) = (refl, refl, refl)
+simple_word (s.Numeric (Saturate I32TruncSatF32S)) = (refl, refl, refl)
+simple_word (s.Numeric (Saturate _)) = (refl, refl, refl)
 simple_word (s.Numeric (SignExtend I32From8)) = (refl, refl, refl)
 simple_word (s.Numeric (SignExtend _)) = (refl, refl, refl)
 simple_word (s.Numeric _) = (refl, refl, refl)
@@ -187,6 +190,8 @@ IsFree (s.F32Const n) = ⊥
 IsFree (s.F64Const n) = ⊥
 IsFree (s.Load o at) = ⊥
 IsFree (s.Store o at) = ⊥
+IsFree s.MemoryCopy = ⊥
+IsFree s.MemoryFill = ⊥
 IsFree _ = Unit {0}
 
 free : (p : Profile) (i : Simple) → IsFree i → HasSimple p i
@@ -196,6 +201,8 @@ free p (s.F32Const n) h = absurd h
 free p (s.F64Const n) h = absurd h
 free p (s.Load o at) h = absurd h
 free p (s.Store o at) h = absurd h
+free p s.MemoryCopy h = absurd h
+free p s.MemoryFill h = absurd h
 free p _ h = refl
 
 -- whether a profile has an access does not depend on its place
@@ -215,6 +222,8 @@ KindOf p k.F32Const = (n : ℕ) → HasSimple p (s.F32Const n)
 KindOf p k.F64Const = (n : ℕ) → HasSimple p (s.F64Const n)
 KindOf p (k.Load o) = (at : MemArg) → HasSimple p (s.Load o at)
 KindOf p (k.Store o) = (at : MemArg) → HasSimple p (s.Store o at)
+KindOf p k.MemoryCopy = HasSimple p s.MemoryCopy
+KindOf p k.MemoryFill = HasSimple p s.MemoryFill
 KindOf p _ = Unit {0}
 
 pub piece_named : (p : Profile) (q : Piece) → IsPieceOf p q → class_named p (piece_word q) ≡ piece_class q
@@ -391,6 +400,8 @@ module _ (use_at : Reader ℕ) (sc : Scope) (use_sound : Sound use_at (UnnamedTy
   kind_sound k.GlobalSet w e of = simple_sound s.GlobalSet (atom_at (index_of sc.names.globals)) (Resolves sc.names.globals) w (index_sound sc.names.globals) (λ x. e) (λ x. tt) (λ x front h. h)
   kind_sound k.MemorySize w e of = alone_sound s.MemorySize w e refl (free p s.MemorySize tt)
   kind_sound k.MemoryGrow w e of = alone_sound s.MemoryGrow w e refl (free p s.MemoryGrow tt)
+  kind_sound k.MemoryCopy w e of = alone_sound s.MemoryCopy w e refl of
+  kind_sound k.MemoryFill w e of = alone_sound s.MemoryFill w e refl of
   kind_sound k.I32Const w e of = simple_sound s.I32Const (atom_at (integer_of 32)) (WritesInteger 32) w (integer_sound 32) (λ x. e) (λ x. tt) (λ x front h. h)
   kind_sound k.I64Const w e of = simple_sound s.I64Const (atom_at (integer_of 64)) (WritesInteger 64) w (integer_sound 64) (λ x. e) (λ x. tt) (λ x front h. h)
   kind_sound k.F32Const w e of = made_sound (λ x. plain (s.F32Const x)) (atom_at (float_of float.F32)) (WritesFloat float.F32) (Headed w) (float_sound float.F32) (λ x front h. (e, h, of x))
@@ -414,6 +425,8 @@ module _ (use_at : Reader ℕ) (sc : Scope) (use_sound : Sound use_at (UnnamedTy
   class_sound (op.Simple (s.GlobalSet x)) w e h = kind_sound k.GlobalSet w (some_word (codes "global.set") w e) tt
   class_sound (op.Simple s.MemorySize) w e h = kind_sound k.MemorySize w (some_word (codes "memory.size") w e) tt
   class_sound (op.Simple s.MemoryGrow) w e h = kind_sound k.MemoryGrow w (some_word (codes "memory.grow") w e) tt
+  class_sound (op.Simple s.MemoryCopy) w e h = kind_sound k.MemoryCopy w (some_word (codes "memory.copy") w e) h
+  class_sound (op.Simple s.MemoryFill) w e h = kind_sound k.MemoryFill w (some_word (codes "memory.fill") w e) h
   class_sound (op.Simple (s.I32Const x)) w e h = kind_sound k.I32Const w (some_word (codes "i32.const") w e) tt
   class_sound (op.Simple (s.I64Const x)) w e h = kind_sound k.I64Const w (some_word (codes "i64.const") w e) tt
   class_sound (op.Simple (s.F32Const x)) w e h = kind_sound k.F32Const w (some_word (codes "f32.const") w e) (λ n. h)
@@ -468,6 +481,8 @@ module _ (use_at : Reader ℕ) (sc : Scope) (use_sound : Sound use_at (UnnamedTy
     simple_complete (s.Store o at) front rest h f = made_is (λ y. plain (s.Store o y)) (access_at (store o).width (front ++ rest)) at rest (access_complete (store o).width (store_width o) at front rest h (follow_keys rest f))
     simple_complete s.MemorySize front rest h f = alone_complete s.MemorySize front rest h
     simple_complete s.MemoryGrow front rest h f = alone_complete s.MemoryGrow front rest h
+    simple_complete s.MemoryCopy front rest h f = alone_complete s.MemoryCopy front rest h
+    simple_complete s.MemoryFill front rest h f = alone_complete s.MemoryFill front rest h
     simple_complete (s.Numeric n) front rest h f = alone_complete (s.Numeric n) front rest h
     simple_complete s.Unreachable front rest h f = alone_complete s.Unreachable front rest h
     simple_complete s.Nop front rest h f = alone_complete s.Nop front rest h

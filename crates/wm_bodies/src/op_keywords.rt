@@ -12,7 +12,7 @@ use wm_syntax::profile::Profile;
 
 // A hash table: the first byte of each instruction whose name has five characters or more, at the index that
 // `long_guess` computes from the name. All other entries are 0. Two names collide: the entry is `memory.size`, and
-// `i32.popcnt` is searched. A wrong byte here only costs time.
+// `i32.popcnt` is searched, as are the instructions behind FC. A wrong byte here only costs time.
 static GUESSES: [u8; 512] = [
     0x00, 0x00, 0x00, 0x00, 0x00, 0x00, 0x63, 0x00, 0x00, 0x00, 0x00, 0x00, 0x81, 0x00, 0x00, 0x4F,
     0xA4, 0xA8, 0x00, 0x00, 0x00, 0x00, 0x00, 0x00, 0x00, 0x6D, 0x00, 0x00, 0x00, 0x00, 0x00, 0x00,
@@ -93,7 +93,7 @@ pub(crate) fn op_keyword(profile: Profile, word: &[u8]) -> OpClass
     ensures { result ≡ class_named profile word.now }
 {
     let byte = guess(word);
-    if is(name_of(byte), word) {
+    if is(name_of(u16::from(byte)), word) {
         op_of(profile, byte)
     } else {
         op_named(profile, word)

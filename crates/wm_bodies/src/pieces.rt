@@ -144,7 +144,7 @@ fn closes<'a>(
     }
 }
 
-/// Reads the operand of an instruction that has one, or none for `memory.size` and `memory.grow`.
+/// Reads the operand of an instruction that has one, or none for the instructions on a whole memory.
 fn operand<'a>(
     profile: Profile,
     scope: &Scope,
@@ -169,6 +169,8 @@ fn operand<'a>(
         Immediates::GlobalSet => with(Simple::GlobalSet, index(&scope.names.globals, text)?),
         Immediates::MemorySize => (Simple::MemorySize, text),
         Immediates::MemoryGrow => (Simple::MemoryGrow, text),
+        Immediates::MemoryCopy => (Simple::MemoryCopy, text),
+        Immediates::MemoryFill => (Simple::MemoryFill, text),
         Immediates::I32Const => with(Simple::I32Const, integer_32(text)?),
         Immediates::I64Const => with(Simple::I64Const, integer_64(text)?),
         Immediates::Load(op) => load(op, text)?,

@@ -8,8 +8,8 @@ use Rattle.wm_syntax.specs.declared.types.Limits.{Limits}
 use Rattle.wm_syntax.specs.declared.profile.Feature.TheVariants.{Floats}
 use Rattle.wm_syntax.specs.Instructions.{Instructions}
 use Rattle.wm_syntax.specs.Modules.{Export, Element, Segment, constant, empty_module}
-use Rattle.wm_syntax.specs.Profiles.{HasInstructions, feature_of, four, has}
-use Rattle.wm_syntax.proofs.ProfileLaws.{four_has, module_of_four}
+use Rattle.wm_syntax.specs.Profiles.{HasInstructions, every, has}
+use Rattle.wm_syntax.proofs.ProfileLaws.{every_has_simple, module_of_every}
 use Rattle.wm_tokens.specs.Tokens.{Token, open_paren, close_paren, atom}
 use Rattle.wm_tokens.specs.Identifiers.{Ids, Resolves}
 use Rattle.wm_tokens.specs.Written.{Named, WritesGroups, Names, TypeUse, Scope, WritesInstructions}
@@ -41,44 +41,44 @@ closed = record {
 }
 
 -- Any float literal, and any instruction.
-any : IsTrue (has four Floats) → (a : List ℕ) → Any a
+any : IsTrue (has every Floats) → (a : List ℕ) → Any a
 any h a = tt
 
-instructions_of_four : (is : Instructions) → HasInstructions four is
-instructions_of_four is = (module_of_four (record empty_module { functions = (record { type_index = 0; locals = []; body = is }) ∷ [] })).functions.0.1
+instructions_of_every : (is : Instructions) → HasInstructions every is
+instructions_of_every is = (module_of_every (record empty_module { functions = (record { type_index = 0; locals = []; body = is }) ∷ [] })).functions.0.1
 
 pub balanced_then : (P Q : Form Token) → AllBalanced P → AllBalanced Q → AllBalanced (P ▸ Q)
-balanced_then = keeps_then Balanced Any closed four any
+balanced_then = keeps_then Balanced Any closed every any
 
 pub balanced_groups : (w : List ℕ) → is_word w ≡ true → (all : List Named) → AllBalanced (WritesGroups w all)
-balanced_groups = keeps_groups Balanced Any closed four any
+balanced_groups = keeps_groups Balanced Any closed every any
 
 pub balanced_use : (names : Names) (x : ℕ) (params : List Named) → AllBalanced (TypeUse names x params)
-balanced_use = keeps_use Balanced Any closed four any
+balanced_use = keeps_use Balanced Any closed every any
 
 pub balanced_instructions : (s : Scope) (labels : Ids) (is : Instructions) → AllBalanced (WritesInstructions s labels is)
-balanced_instructions s labels is = keeps_instructions Balanced Any closed four any s labels is (instructions_of_four is)
+balanced_instructions s labels is = keeps_instructions Balanced Any closed every any s labels is (instructions_of_every is)
 
 pub balanced_limits : (l : Limits) → AllBalanced (WritesLimits l)
-balanced_limits = keeps_limits Balanced Any closed four any
+balanced_limits = keeps_limits Balanced Any closed every any
 
 pub balanced_table_type : (l : Limits) → AllBalanced (WritesTableType l)
-balanced_table_type = keeps_table_type Balanced Any closed four any
+balanced_table_type = keeps_table_type Balanced Any closed every any
 
 pub balanced_global_type : (var : Bool) (t : ValType) → AllBalanced (WritesGlobalType var t)
-balanced_global_type = keeps_global_type Balanced Any closed four any
+balanced_global_type = keeps_global_type Balanced Any closed every any
 
 pub balanced_const : (names : Names) (x : Const) → AllBalanced (WritesConst names x)
-balanced_const names x = keeps_const Balanced Any closed four any names x (four_has (feature_of (constant x)))
+balanced_const names x = keeps_const Balanced Any closed every any names x (every_has_simple (constant x))
 
 pub balanced_export : (names : Names) (e : Export) → AllBalanced (WritesName e.name ▸ WritesExport names e.kind e.index)
-balanced_export = keeps_export Balanced Any closed four any
+balanced_export = keeps_export Balanced Any closed every any
 
 pub balanced_start : (names : Names) (x : ℕ) → AllBalanced (Resolves names.functions x)
-balanced_start names x = keeps_index Balanced Any closed four any names.functions x
+balanced_start names x = keeps_index Balanced Any closed every any names.functions x
 
 pub balanced_element : (names : Names) (e : Element) → AllBalanced (WritesTarget names.tables e.table ▸ WritesOffset names e.offset ▸ WritesFunctions names.functions e.functions)
-balanced_element names e = keeps_element Balanced Any closed four any names e (four_has (feature_of (constant e.offset)))
+balanced_element names e = keeps_element Balanced Any closed every any names e (every_has_simple (constant e.offset))
 
 pub balanced_segment : (names : Names) (s : Segment) → AllBalanced (WritesTarget names.memories s.memory ▸ WritesOffset names s.offset ▸ WritesStrings s.bytes)
-balanced_segment names s = keeps_segment Balanced Any closed four any names s (four_has (feature_of (constant s.offset)))
+balanced_segment names s = keeps_segment Balanced Any closed every any names s (every_has_simple (constant s.offset))

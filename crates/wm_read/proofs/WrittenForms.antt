@@ -9,7 +9,7 @@ use Rattle.wm_syntax.specs.declared.types.Const.{Const}
 use Rattle.wm_syntax.specs.declared.types.Limits.{Limits}
 use Rattle.wm_syntax.specs.declared.instructions.MemArg.{MemArg}
 use Rattle.wm_syntax.specs.declared.instructions.Simple.{Simple}
-use Rattle.wm_syntax.specs.declared.instructions.Simple.TheVariants.{Unreachable, Nop, Return, Drop, Select, Br, BrIf, Call, CallIndirect, LocalGet, LocalSet, LocalTee, GlobalGet, GlobalSet, MemorySize, MemoryGrow, I32Const, I64Const, F32Const, F64Const, Load, Store, Numeric}
+use Rattle.wm_syntax.specs.declared.instructions.Simple.TheVariants.{Unreachable, Nop, Return, Drop, Select, Br, BrIf, Call, CallIndirect, LocalGet, LocalSet, LocalTee, GlobalGet, GlobalSet, MemorySize, MemoryGrow, MemoryCopy, MemoryFill, I32Const, I64Const, F32Const, F64Const, Load, Store, Numeric}
 use Rattle.wm_syntax.specs.declared.modules.ExportKind.{ExportKind}
 use Rattle.wm_syntax.specs.declared.modules.ExportKind.TheVariants as kind
 use Rattle.wm_syntax.specs.declared.profile.Profile.{Profile}
@@ -154,6 +154,8 @@ module _ (B : List Token → Type 0) (A : List ℕ → Type 0) (c : Closed B A) 
   keeps_operand s labels (GlobalSet x) has = keeps_index s.names.globals x
   keeps_operand s labels MemorySize has = keeps_nil
   keeps_operand s labels MemoryGrow has = keeps_nil
+  keeps_operand s labels MemoryCopy has = keeps_nil
+  keeps_operand s labels MemoryFill has = keeps_nil
   keeps_operand s labels (I32Const n) has = λ f h. keeps_atom h.0 (integer 32 n h.0 h.2) f h.1
   keeps_operand s labels (I64Const n) has = λ f h. keeps_atom h.0 (integer 64 n h.0 h.2) f h.1
   keeps_operand s labels (F32Const n) has = λ f h. keeps_atom h.0 (float has h.0) f h.1

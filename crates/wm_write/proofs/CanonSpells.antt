@@ -1,11 +1,11 @@
 -- The canonical binary spells its module.
 use Rattle.std.proofs.Common.{ℕ, suc, ◌+◌, ◌≡◌, ◌<◌, ◌≤◌, ◌^◌, List, [], ◌∷◌, ◌++◌, Option, Some, None, Bool, true, false, length, refl, sym, ◌∙◌, ap, subst, append-nil, length-append, arith, map, flat_map, replicate, inl, inr, cond, nat_lt, ◌%◌, ◌/◌}
 use Rattle.wm_syntax.proofs.NumberLoops.{short}
-use Rattle.std.specs.Prelude.{IsUtf8, IfSome}
+use Rattle.std.specs.Prelude.{IsUtf8, IfSome, ◌-◌}
 use Rattle.std.specs.List.{AllByRecursion}
 use Rattle.std.proofs.lemmas.List.{length-replicate}
-use Rattle.wm_syntax.specs.Leb128.{unsigned_bytes, signed_bytes}
-use Rattle.wm_syntax.specs.Spelling.{Form, Byte, Exactly, Each, AreBytes, ◌▸◌}
+use Rattle.wm_syntax.specs.Leb128.{unsigned_bytes}
+use Rattle.wm_syntax.specs.Spelling.{Form, Byte, Each, AreBytes, ◌▸◌}
 use Rattle.wm_syntax.specs.declared.types.ValType.{ValType}
 use Rattle.wm_syntax.specs.declared.types.Limits.{Limits}
 use Rattle.wm_syntax.specs.declared.types.GlobalType.{GlobalType}
@@ -13,13 +13,14 @@ use Rattle.wm_syntax.specs.declared.types.Const.{Const}
 use Rattle.wm_syntax.specs.declared.modules.ImportDesc.{ImportDesc}
 use Rattle.wm_syntax.specs.declared.modules.ImportDesc.TheVariants.{Func, Table, Memory, Global}
 use Rattle.wm_syntax.specs.declared.instructions.Simple.{Simple}
-use Rattle.wm_syntax.specs.declared.instructions.Simple.TheVariants.{Unreachable, Nop, Return, Drop, Select, Br, BrIf, Call, CallIndirect, LocalGet, LocalSet, LocalTee, GlobalGet, GlobalSet, MemorySize, MemoryGrow, I32Const, I64Const, F32Const, F64Const, Load, Store, Numeric}
+use Rattle.wm_syntax.specs.declared.instructions.Simple.TheVariants.{Unreachable, Nop, Return, Drop, Select, Br, BrIf, Call, CallIndirect, LocalGet, LocalSet, LocalTee, GlobalGet, GlobalSet, MemorySize, MemoryGrow, MemoryCopy, MemoryFill, I32Const, I64Const, F32Const, F64Const, Load, Store, Numeric}
 use Rattle.wm_syntax.specs.declared.instructions.Op.{Op}
 use Rattle.wm_syntax.specs.declared.instructions.Op.TheVariants as op
 use Rattle.wm_syntax.specs.declared.profile.Profile.{Profile}
 use Rattle.wm_syntax.specs.Profiles.{HasType}
 use Rattle.wm_syntax.specs.Types.{Signature, block_byte, type_byte, SpellsU32, SpellsList, SpellsName, SpellsValType, SpellsSignature, SpellsBounds, SpellsLimits, SpellsTableType, SpellsVar, SpellsGlobalType, SpellsBlockType}
-use Rattle.wm_syntax.specs.Instructions.{Instruction, Instructions, none, snoc, simple, table, block, loop, choice, SpellsSimple, SpellsOp, SpellsInstructions, float_bytes, instruction_ops, ops_of, else_ops}
+use Rattle.wm_syntax.specs.Instructions.{Instruction, Instructions, none, snoc, simple, table, block, loop, choice, instruction_ops, ops_of, else_ops}
+use Rattle.wm_syntax.specs.Encodings.{SpellsOpcode, SpellsOpcodeBy, SpellsImmediates, SpellsSimple, SpellsOp, SpellsInstructions}
 use Rattle.wm_syntax.specs.Modules.{IsU32, IsSimple, IsInstruction, AreInstructions, AreLimits, IsDesc, IsConst, IsModule, Module, Import, Function, GlobalDef, Export, Element, Segment, constant}
 use Rattle.wm_syntax.proofs.Spellings.{unsigned_spells, signed_spells}
 use Rattle.wm_syntax.proofs.FloatBytes.{float_spells}
@@ -30,7 +31,9 @@ use Rattle.wm_syntax.specs.Modules.{locals_of}
 use Rattle.wm_machine.proofs.NameBytes.{utf8_bytes}
 use Rattle.wm_syntax.specs.Runs.{same, type_before, runs_of}
 use Rattle.wm_syntax.proofs.SameTypes.{means}
-use Rattle.wm_write.specs.Canon.{u32_bytes, op_bytes, ops_bytes}
+use Rattle.wm_write.specs.Canon.{opcode_bytes, immediates, u32_bytes, op_bytes, ops_bytes}
+use Rattle.wm_syntax.specs.Opcodes.{opcode}
+use Rattle.wm_syntax.proofs.OpTable.{small_code}
 use Rattle.wm_write.proofs.Ranges.{HaveLocals, both_in}
 use Rattle.wm_write.specs.Canon.{listed, sized, value_type_bytes, signature_bytes, bounds_bytes, limits_bytes, table_bytes, var_byte, global_type_bytes, desc_bytes, import_bytes, constant_bytes, global_bytes, export_bytes, element_bytes, run_bytes, code_contents, code_bytes, segment_bytes, list_section, start_section, canon, Fits}
 
@@ -42,36 +45,48 @@ number n h = unsigned_spells 32 5 n (omega arith) (omega arith) h
 one_number : (byte n : ℕ) → IsU32 n → (Byte byte ▸ SpellsU32 n) (byte ∷ u32_bytes n)
 one_number byte n h = (byte ∷ [], u32_bytes n, refl, refl, number n h)
 
-two_numbers : (byte n k : ℕ) → IsU32 n → IsU32 k → (Byte byte ▸ SpellsU32 n ▸ SpellsU32 k) (byte ∷ (u32_bytes n ++ u32_bytes k))
-two_numbers byte n k h j = (byte ∷ [], u32_bytes n ++ u32_bytes k, refl, refl, (u32_bytes n, u32_bytes k, refl, number n h, number k j))
+opcode_spells : (c : ℕ) → c < 0x10C → SpellsOpcode c (opcode_bytes c)
+opcode_spells c l = by (nat_lt c 0x100) refl
+  where
+    by : (b : Bool) → nat_lt c 0x100 ≡ b → SpellsOpcodeBy b c (cond b (c ∷ []) (0xFC ∷ u32_bytes (c - 0x100)))
+    by true e = refl
+    by false e = (0xFC ∷ [], u32_bytes (c - 0x100), refl, refl, number (c - 0x100) (omega (arith, l)))
 
-alone : (byte : ℕ) → (Byte byte ▸ Exactly []) (byte ∷ [])
-alone byte = (byte ∷ [], [], refl, refl, refl)
+two_numbers : (n k : ℕ) → IsU32 n → IsU32 k → (SpellsU32 n ▸ SpellsU32 k) (u32_bytes n ++ u32_bytes k)
+two_numbers n k h j = (u32_bytes n, u32_bytes k, refl, number n h, number k j)
 
-simple_spells : (i : Simple) → IsSimple i → SpellsSimple i (op_bytes (op.Simple i))
-simple_spells (Br l) h = one_number _ l h
-simple_spells (BrIf l) h = one_number _ l h
-simple_spells (Call x) h = one_number _ x h
-simple_spells (CallIndirect x) h = (0x11 ∷ [], u32_bytes x ++ 0x00 ∷ [], refl, refl, (u32_bytes x, 0x00 ∷ [], refl, number x h, refl))
-simple_spells (LocalGet x) h = one_number _ x h
-simple_spells (LocalSet x) h = one_number _ x h
-simple_spells (LocalTee x) h = one_number _ x h
-simple_spells (GlobalGet x) h = one_number _ x h
-simple_spells (GlobalSet x) h = one_number _ x h
-simple_spells MemorySize h = (0x3F ∷ [], 0x00 ∷ [], refl, refl, refl)
-simple_spells MemoryGrow h = (0x40 ∷ [], 0x00 ∷ [], refl, refl, refl)
-simple_spells (I32Const n) h = (0x41 ∷ [], signed_bytes 5 n, refl, refl, signed_spells 32 5 n (omega arith) (omega arith) h)
-simple_spells (I64Const n) h = (0x42 ∷ [], signed_bytes 10 n, refl, refl, signed_spells 64 10 n (omega arith) (omega arith) h)
-simple_spells (F32Const n) h = (0x43 ∷ [], float_bytes 4 n, refl, refl, float_spells 4 n h)
-simple_spells (F64Const n) h = (0x44 ∷ [], float_bytes 8 n, refl, refl, float_spells 8 n h)
-simple_spells (Load o at) h = two_numbers _ at.align at.offset h.0 h.1
-simple_spells (Store o at) h = two_numbers _ at.align at.offset h.0 h.1
-simple_spells Unreachable h = alone _
-simple_spells Nop h = alone _
-simple_spells Return h = alone _
-simple_spells Drop h = alone _
-simple_spells Select h = alone _
-simple_spells (Numeric o) h = alone _
+byte_numbers : (byte n k : ℕ) → IsU32 n → IsU32 k → (Byte byte ▸ SpellsU32 n ▸ SpellsU32 k) (byte ∷ (u32_bytes n ++ u32_bytes k))
+byte_numbers byte n k h j = (byte ∷ [], u32_bytes n ++ u32_bytes k, refl, refl, two_numbers n k h j)
+
+immediates_spell : (p : Profile) (i : Simple) → IsSimple i → SpellsImmediates p i (immediates i)
+immediates_spell p (Br l) h = number l h
+immediates_spell p (BrIf l) h = number l h
+immediates_spell p (Call x) h = number x h
+immediates_spell p (CallIndirect x) h = (u32_bytes x, 0x00 ∷ [], refl, number x h, inl refl)
+immediates_spell p (LocalGet x) h = number x h
+immediates_spell p (LocalSet x) h = number x h
+immediates_spell p (LocalTee x) h = number x h
+immediates_spell p (GlobalGet x) h = number x h
+immediates_spell p (GlobalSet x) h = number x h
+immediates_spell p MemorySize h = refl
+immediates_spell p MemoryGrow h = refl
+immediates_spell p MemoryCopy h = (0x00 ∷ [], 0x00 ∷ [], refl, refl, refl)
+immediates_spell p MemoryFill h = refl
+immediates_spell p (I32Const n) h = signed_spells 32 5 n (omega arith) (omega arith) h
+immediates_spell p (I64Const n) h = signed_spells 64 10 n (omega arith) (omega arith) h
+immediates_spell p (F32Const n) h = float_spells 4 n h
+immediates_spell p (F64Const n) h = float_spells 8 n h
+immediates_spell p (Load o at) h = two_numbers at.align at.offset h.0 h.1
+immediates_spell p (Store o at) h = two_numbers at.align at.offset h.0 h.1
+immediates_spell p Unreachable h = refl
+immediates_spell p Nop h = refl
+immediates_spell p Return h = refl
+immediates_spell p Drop h = refl
+immediates_spell p Select h = refl
+immediates_spell p (Numeric o) h = refl
+
+simple_spells : (p : Profile) (i : Simple) → IsSimple i → SpellsSimple p i (op_bytes (op.Simple i))
+simple_spells p i h = (opcode_bytes (opcode i).0, immediates i, refl, opcode_spells (opcode i).0 (small_code i), immediates_spell p i h)
 
 block_spells : (byte : ℕ) (t : Option ValType) → (Byte byte ▸ SpellsBlockType t) (byte ∷ block_byte t ∷ [])
 block_spells byte t = (byte ∷ [], block_byte t ∷ [], refl, refl, refl)
@@ -83,15 +98,15 @@ IsOp (op.BrTable n) = IsU32 n
 IsOp (op.Label l) = IsU32 l
 IsOp _ = Unit {0}
 
-op_spells : (o : Op) → IsOp o → SpellsOp o (op_bytes o)
-op_spells (op.Simple i) h = simple_spells i h
-op_spells (op.Block t) h = block_spells 0x02 t
-op_spells (op.Loop t) h = block_spells 0x03 t
-op_spells (op.If t) h = block_spells 0x04 t
-op_spells op.Else h = refl
-op_spells op.End h = refl
-op_spells (op.BrTable n) h = one_number 0x0E n h
-op_spells (op.Label l) h = number l h
+op_spells : (p : Profile) (o : Op) → IsOp o → SpellsOp p o (op_bytes o)
+op_spells p (op.Simple i) h = simple_spells p i h
+op_spells p (op.Block t) h = block_spells 0x02 t
+op_spells p (op.Loop t) h = block_spells 0x03 t
+op_spells p (op.If t) h = block_spells 0x04 t
+op_spells p op.Else h = refl
+op_spells p op.End h = refl
+op_spells p (op.BrTable n) h = one_number 0x0E n h
+op_spells p (op.Label l) h = number l h
 
 -- the ops of instructions have the ranges of these
 all_append : {X : Type 0} (P : X → Type 0) (xs ys : List X) → AllByRecursion P xs → AllByRecursion P ys → AllByRecursion P (xs ++ ys)
@@ -119,12 +134,12 @@ mutual
   ops_in none h = tt
   ops_in (snoc s i) h = all_append IsOp (ops_of s) (instruction_ops i) (ops_in s h.0) (op_in i h.1)
 
-each_op : (ops : List Op) → AllByRecursion IsOp ops → Each SpellsOp ops (ops_bytes ops)
-each_op [] h = refl
-each_op (o ∷ ops) h = (op_bytes o, ops_bytes ops, refl, op_spells o h.0, each_op ops h.1)
+each_op : (p : Profile) (ops : List Op) → AllByRecursion IsOp ops → Each (SpellsOp p) ops (ops_bytes ops)
+each_op p [] h = refl
+each_op p (o ∷ ops) h = (op_bytes o, ops_bytes ops, refl, op_spells p o h.0, each_op p ops h.1)
 
-pub instructions_spell : (s : Instructions) → AreInstructions s → SpellsInstructions s (ops_bytes (ops_of s))
-instructions_spell s h = spelled_by_ops s (ops_of s) (ops_bytes (ops_of s)) (has_ops s) (each_op (ops_of s) (ops_in s h))
+pub instructions_spell : (p : Profile) (s : Instructions) → AreInstructions s → SpellsInstructions p s (ops_bytes (ops_of s))
+instructions_spell p s h = spelled_by_ops p s (ops_of s) (ops_bytes (ops_of s)) (has_ops s) (each_op p (ops_of s) (ops_in s h))
 
 -- Lists: each member is spelled where it is not too large, and is at least a byte.
 part_less : (a b : List ℕ) (n : ℕ) → length (a ++ b) < n → (length a < n) × (length b < n)
@@ -181,7 +196,7 @@ limits_spell l h = go l.min l.max h.0 h.1
   where
     go : (min : ℕ) (max : Option ℕ) → IsU32 min → IfSome max IsU32 → SpellsBounds min max (bounds_bytes min max)
     go min None a b = one_number 0x00 min a
-    go min (Some max) a b = two_numbers 0x01 min max a b
+    go min (Some max) a b = byte_numbers 0x01 min max a b
 
 table_spells : (l : Limits) → AreLimits l → SpellsTableType l (table_bytes l)
 table_spells l h = (0x70 ∷ [], limits_bytes l, refl, refl, limits_spell l h)
@@ -211,22 +226,22 @@ import_spells i h few =
     let k = part_less (sized i.item_name) (desc_bytes i.desc) (2 ^ 32) l.1 in
     (sized i.module_name, sized i.item_name ++ desc_bytes i.desc, refl, name_spells i.module_name h.0 l.0, (sized i.item_name, desc_bytes i.desc, refl, name_spells i.item_name h.1 k.0, desc_spells i.desc h.2))
 
-const_spells : (c : Const) → IsConst c → SpellsConst c (constant_bytes c)
-const_spells c h = (op_bytes (op.Simple (constant c)), 0x0B ∷ [], refl, ([], op_bytes (op.Simple (constant c)), refl, refl, simple_spells (constant c) h), refl)
+const_spells : (p : Profile) (c : Const) → IsConst c → SpellsConst p c (constant_bytes c)
+const_spells p c h = (op_bytes (op.Simple (constant c)), 0x0B ∷ [], refl, ([], op_bytes (op.Simple (constant c)), refl, refl, simple_spells p (constant c) h), refl)
 
-global_spells : (g : GlobalDef) → IsConst g.init → SpellsGlobal g (global_bytes g)
-global_spells g h = (global_type_bytes g.ty, constant_bytes g.init, refl, global_type_spells g.ty, const_spells g.init h)
+global_spells : (p : Profile) (g : GlobalDef) → IsConst g.init → SpellsGlobal p g (global_bytes g)
+global_spells p g h = (global_type_bytes g.ty, constant_bytes g.init, refl, global_type_spells g.ty, const_spells p g.init h)
 
 export_spells : (e : Export) → IsUtf8 e.name × IsU32 e.index → length (export_bytes e) < 2 ^ 32 → SpellsExport e (export_bytes e)
 export_spells e h few =
     let l = part_less (sized e.name) (kind_byte e.kind ∷ u32_bytes e.index) (2 ^ 32) few in
     (sized e.name, kind_byte e.kind ∷ u32_bytes e.index, refl, name_spells e.name h.0 l.0, one_number (kind_byte e.kind) e.index h.1)
 
-element_spells : (e : Element) → IsU32 e.table × IsConst e.offset × AllByRecursion IsU32 e.functions → length (element_bytes e) < 2 ^ 32 → SpellsElement e (element_bytes e)
-element_spells e h few =
+element_spells : (p : Profile) (e : Element) → IsU32 e.table × IsConst e.offset × AllByRecursion IsU32 e.functions → length (element_bytes e) < 2 ^ 32 → SpellsElement p e (element_bytes e)
+element_spells p e h few =
     let l = part_less (u32_bytes e.table) (constant_bytes e.offset ++ listed u32_bytes e.functions) (2 ^ 32) few in
     let k = part_less (constant_bytes e.offset) (listed u32_bytes e.functions) (2 ^ 32) l.1 in
-    (u32_bytes e.table, constant_bytes e.offset ++ listed u32_bytes e.functions, refl, number e.table h.0, (constant_bytes e.offset, listed u32_bytes e.functions, refl, const_spells e.offset h.1, list_spells SpellsU32 u32_bytes IsU32 (λ x i l. number x i) number_some e.functions h.2 k.1))
+    (u32_bytes e.table, constant_bytes e.offset ++ listed u32_bytes e.functions, refl, number e.table h.0, (constant_bytes e.offset, listed u32_bytes e.functions, refl, const_spells p e.offset h.1, list_spells SpellsU32 u32_bytes IsU32 (λ x i l. number x i) number_some e.functions h.2 k.1))
 
 -- locals
 added : (t : ValType) (runs : List (ℕ × ValType)) → locals_of (type_before t runs) ≡ t ∷ locals_of runs
@@ -293,14 +308,14 @@ code_spells p f h few =
       code_contents f,
       refl,
       number (length (code_contents f)) l.1,
-      (listed run_bytes (runs_of f.locals), ops_bytes (ops_of f.body) ++ 0x0B ∷ [], refl, locals_spell p f.locals h.0 h.1.1 k.0, (ops_bytes (ops_of f.body), 0x0B ∷ [], refl, instructions_spell f.body h.1.2, refl)),
+      (listed run_bytes (runs_of f.locals), ops_bytes (ops_of f.body) ++ 0x0B ∷ [], refl, locals_spell p f.locals h.0 h.1.1 k.0, (ops_bytes (ops_of f.body), 0x0B ∷ [], refl, instructions_spell p f.body h.1.2, refl)),
     )
 
-segment_spells : (s : Segment) → IsU32 s.memory × IsConst s.offset × AreBytes s.bytes → length (segment_bytes s) < 2 ^ 32 → SpellsSegment s (segment_bytes s)
-segment_spells s h few =
+segment_spells : (p : Profile) (s : Segment) → IsU32 s.memory × IsConst s.offset × AreBytes s.bytes → length (segment_bytes s) < 2 ^ 32 → SpellsSegment p s (segment_bytes s)
+segment_spells p s h few =
     let l = part_less (u32_bytes s.memory) (constant_bytes s.offset ++ sized s.bytes) (2 ^ 32) few in
     let k = part_less (constant_bytes s.offset) (sized s.bytes) (2 ^ 32) l.1 in
-    (u32_bytes s.memory, constant_bytes s.offset ++ sized s.bytes, refl, number s.memory h.0, (constant_bytes s.offset, sized s.bytes, refl, const_spells s.offset h.1, bytes_spell s.bytes h.2 k.1))
+    (u32_bytes s.memory, constant_bytes s.offset ++ sized s.bytes, refl, number s.memory h.0, (constant_bytes s.offset, sized s.bytes, refl, const_spells p s.offset h.1, bytes_spell s.bytes h.2 k.1))
 
 start_spells : (s : Option ℕ) → IfSome s IsU32 → StartSection s (start_section s)
 start_spells None h = refl
@@ -356,12 +371,12 @@ spells p m types h fit = (
       (section_spells (λ f. SpellsU32 f.type_index) (λ f. u32_bytes f.type_index) (λ f. IsU32 f.type_index × (length f.locals < 2 ^ 32) × AreInstructions f.body) (λ f i l. number f.type_index i.0) (λ f. number_some f.type_index) 3 m.functions h.functions fit.functions)
       (plainly _ _ (list_section 4 table_bytes m.tables) _ (section_spells SpellsTableType table_bytes AreLimits (λ l i k. table_spells l i) (λ l. one_more 0x70 _) 4 m.tables h.tables fit.tables)
       (plainly _ _ (list_section 5 limits_bytes m.memories) _ (section_spells SpellsLimits limits_bytes AreLimits (λ l i k. limits_spell l i) limits_some 5 m.memories h.memories fit.memories)
-      (plainly _ _ (list_section 6 global_bytes m.globals) _ (section_spells SpellsGlobal global_bytes (λ g. IsConst g.init) (λ g i l. global_spells g i) global_some 6 m.globals h.globals fit.globals)
+      (plainly _ _ (list_section 6 global_bytes m.globals) _ (section_spells (SpellsGlobal p) global_bytes (λ g. IsConst g.init) (λ g i l. global_spells p g i) global_some 6 m.globals h.globals fit.globals)
       (plainly _ _ (list_section 7 export_bytes m.exports) _ (section_spells SpellsExport export_bytes (λ e. IsUtf8 e.name × IsU32 e.index) export_spells export_some 7 m.exports h.exports fit.exports)
       (plainly _ _ (start_section m.start) _ (start_spells m.start h.start)
-      (plainly _ _ (list_section 9 element_bytes m.elements) _ (section_spells SpellsElement element_bytes (λ e. IsU32 e.table × IsConst e.offset × AllByRecursion IsU32 e.functions) element_spells element_some 9 m.elements h.elements fit.elements)
+      (plainly _ _ (list_section 9 element_bytes m.elements) _ (section_spells (SpellsElement p) element_bytes (λ e. IsU32 e.table × IsConst e.offset × AllByRecursion IsU32 e.functions) (element_spells p) element_some 9 m.elements h.elements fit.elements)
       (plainly _ _ (list_section 10 code_bytes m.functions) _
       (section_spells (SpellsCode p) code_bytes (IsCode p) (code_spells p) (λ f. some_sized (code_contents f)) 10 m.functions (both_in (λ (f : Function). AllByRecursion (HasType p) f.locals) InRange m.functions types h.functions) fit.codes)
       (last_one _ (list_section 11 segment_bytes m.segments)
-      (section_spells SpellsSegment segment_bytes (λ s. IsU32 s.memory × IsConst s.offset × AreBytes s.bytes) segment_spells segment_some 11 m.segments h.segments fit.segments))))))))))),
+      (section_spells (SpellsSegment p) segment_bytes (λ s. IsU32 s.memory × IsConst s.offset × AreBytes s.bytes) (segment_spells p) segment_some 11 m.segments h.segments fit.segments))))))))))),
 )

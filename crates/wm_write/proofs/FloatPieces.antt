@@ -3,7 +3,7 @@ use Rattle.std.proofs.Common.{◌≡◌, ◌≢◌, ℕ, zero, suc, ◌+◌, ◌
 use Rattle.std.specs.Prelude.{codes, decimal}
 use Rattle.std.specs.Bool.{◌==◌}
 use Rattle.std.proofs.lemmas.Bool.{lt-leb}
-use Rattle.wm_syntax.specs.Instructions.{float_bytes}
+use Rattle.wm_syntax.specs.Encodings.{float_bytes}
 use Rattle.wm_syntax.specs.declared.instructions.FloatType.{FloatType}
 use Rattle.wm_syntax.specs.Floats.{expon, signif}
 use Rattle.wm_write.specs.FloatText.{exponent_text, finite_text, float_text, fraction_text, hex_digit, hexadecimal, places, scaled_text, sign_text, size_text, special_text}

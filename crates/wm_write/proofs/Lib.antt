@@ -9,6 +9,7 @@ pub mod CanonSpells
 pub mod Ranges
 pub mod LeastRuns
 pub mod OpLengths
+pub mod OpcodeBytes
 pub mod Shortest
 pub mod RoundTrip
 pub mod Checks

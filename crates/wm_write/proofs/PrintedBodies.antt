@@ -25,8 +25,9 @@ use Rattle.wm_syntax.specs.declared.instructions.Simple.TheVariants as s
 use Rattle.wm_syntax.specs.declared.instructions.Comparison.TheVariants.{Eq}
 use Rattle.wm_syntax.specs.declared.instructions.UnaryOp.TheVariants.{Clz}
 use Rattle.wm_syntax.specs.declared.instructions.BinaryOp.TheVariants.{Add}
-use Rattle.wm_syntax.specs.declared.instructions.Numeric.TheVariants.{Test, Compare, Unary, Binary, FloatCompare, FloatUnary, FloatBinary, Convert, SignExtend}
+use Rattle.wm_syntax.specs.declared.instructions.Numeric.TheVariants.{Test, Compare, Unary, Binary, FloatCompare, FloatUnary, FloatBinary, Convert, SignExtend, Saturate}
 use Rattle.wm_syntax.specs.declared.instructions.SignExtension.TheVariants.{I32From8}
+use Rattle.wm_syntax.specs.declared.instructions.Saturation.TheVariants.{I32TruncSatF32S}
 use Rattle.wm_syntax.specs.declared.instructions.LoadOp.TheVariants.{I32Load}
 use Rattle.wm_syntax.specs.declared.instructions.StoreOp.TheVariants.{I32Store}
 use Rattle.wm_syntax.specs.Opcodes.{load, opcode, store}
@@ -83,6 +84,8 @@ simple_name (s.Numeric (Convert I32TruncF32S)) = refl
 simple_name (s.Numeric (Convert _)) = refl
 simple_name (s.Numeric (SignExtend I32From8)) = refl
 simple_name (s.Numeric (SignExtend _)) = refl
+simple_name (s.Numeric (Saturate I32TruncSatF32S)) = refl
+simple_name (s.Numeric (Saturate _)) = refl
 simple_name (s.Numeric _) = refl
 simple_name (s.Load I32Load word_at) = refl
 simple_name (s.Load _ word_at) = refl

@@ -1,7 +1,6 @@
 -- The canonical binary is no longer than any other spelling of the same parts.
 use Rattle.std.proofs.Common.{ℕ, ◌≡◌, ◌<◌, ◌≤◌, ◌^◌, List, [], ◌∷◌, ◌++◌, Option, Some, None, length, refl, sym, ap, subst, ◌∙◌, arith, length-append, append-nil, append_assoc, map, flat_map, inl, inr, Bool, true, false}
 use Rattle.std.proofs.lemmas.Grind.{flat_map-append}
-use Rattle.wm_syntax.specs.Leb128.{Signed, signed_bytes}
 use Rattle.wm_syntax.specs.Spelling.{Form, Byte, Exactly, Each, AreBytes, ◌▸◌}
 use Rattle.wm_syntax.specs.declared.types.ValType.{ValType}
 use Rattle.wm_syntax.specs.declared.types.Limits.{Limits}
@@ -10,17 +9,20 @@ use Rattle.wm_syntax.specs.declared.types.Const.{Const}
 use Rattle.wm_syntax.specs.declared.modules.ImportDesc.{ImportDesc}
 use Rattle.wm_syntax.specs.declared.modules.ImportDesc.TheVariants.{Func, Table, Memory, Global}
 use Rattle.wm_syntax.specs.declared.instructions.Simple.{Simple}
-use Rattle.wm_syntax.specs.declared.instructions.Simple.TheVariants.{Unreachable, Nop, Return, Drop, Select, Br, BrIf, Call, CallIndirect, LocalGet, LocalSet, LocalTee, GlobalGet, GlobalSet, MemorySize, MemoryGrow, I32Const, I64Const, F32Const, F64Const, Load, Store, Numeric}
+use Rattle.wm_syntax.specs.declared.instructions.Simple.TheVariants.{Br, BrIf, Call, CallIndirect, LocalGet, LocalSet, LocalTee, GlobalGet, GlobalSet, MemorySize, MemoryGrow, MemoryCopy, MemoryFill, I32Const, I64Const, F32Const, F64Const, Load, Store}
 use Rattle.wm_syntax.specs.declared.instructions.Op.TheVariants as op
 use Rattle.wm_syntax.specs.declared.profile.Profile.{Profile}
 use Rattle.wm_syntax.specs.Runs.{runs_of}
 use Rattle.wm_syntax.specs.Types.{block_byte, Signature, SpellsU32, SpellsList, SpellsBytes, SpellsName, SpellsValType, SpellsSignature, SpellsBounds, SpellsLimits, SpellsTableType, SpellsVar, SpellsGlobalType, SpellsBlockType}
-use Rattle.wm_syntax.specs.Instructions.{Instruction, Instructions, none, snoc, simple, table, block, loop, choice, SpellsSimple, SpellsElse, SpellsInstruction, SpellsInstructions, SpellsExpression, SpellsFloat, float_bytes, instruction_ops, ops_of, else_ops}
+use Rattle.wm_syntax.specs.Instructions.{Instruction, Instructions, none, snoc, simple, table, block, loop, choice, instruction_ops, ops_of, else_ops}
+use Rattle.std.specs.Prelude.{nat_lt, ◌-◌, cond}
+use Rattle.wm_syntax.specs.Opcodes.{opcode}
+use Rattle.wm_syntax.specs.Encodings.{SpellsOpcode, SpellsOpcodeBy, SpellsImmediates, SpellsSimple, SpellsTable, SpellsElse, SpellsInstruction, SpellsInstructions, SpellsExpression, float_bytes}
 use Rattle.wm_syntax.specs.Modules.{Module, Import, Function, GlobalDef, Export, Element, Segment, constant, constant_body}
 use Rattle.wm_syntax.proofs.Spellings.{shortest_is_least, signed_is_least, unsigned_range}
 use Rattle.wm_syntax.proofs.FloatBytes.{float_one}
 use Rattle.wm_machine.specs.Sections.{Customs, ListSection, StartSection, header, SpellsConst, SpellsDesc, SpellsImport, SpellsGlobal, SpellsExport, SpellsElement, SpellsRun, SpellsLocals, SpellsCode, SpellsSegment, SpellsModule, kind_byte}
-use Rattle.wm_write.specs.Canon.{u32_bytes, op_bytes, ops_bytes, listed, sized, value_type_bytes, signature_bytes, bounds_bytes, limits_bytes, table_bytes, global_type_bytes, desc_bytes, import_bytes, constant_bytes, global_bytes, export_bytes, element_bytes, run_bytes, code_contents, code_bytes, segment_bytes, list_section, start_section, canon, Fits, NoLonger, HasShortestSections}
+use Rattle.wm_write.specs.Canon.{opcode_bytes, immediates, u32_bytes, op_bytes, ops_bytes, listed, sized, value_type_bytes, signature_bytes, bounds_bytes, limits_bytes, table_bytes, global_type_bytes, desc_bytes, import_bytes, constant_bytes, global_bytes, export_bytes, element_bytes, run_bytes, code_contents, code_bytes, segment_bytes, list_section, start_section, canon, Fits, NoLonger, HasShortestSections}
 use Rattle.wm_syntax.proofs.NumberLoops.{short}
 use Rattle.wm_write.proofs.LeastRuns.{least_locals, number_rises}
 
@@ -58,11 +60,11 @@ signature s =
 byte_number : (byte n : ℕ) → NoLonger (byte ∷ u32_bytes n) (Byte byte ▸ SpellsU32 n)
 byte_number byte n = then (byte ∷ []) (u32_bytes n) (Byte byte) (SpellsU32 n) (exactly (byte ∷ [])) (number n)
 
-byte_numbers : (byte n k : ℕ) → NoLonger (byte ∷ (u32_bytes n ++ u32_bytes k)) (Byte byte ▸ SpellsU32 n ▸ SpellsU32 k)
-byte_numbers byte n k = then (byte ∷ []) (u32_bytes n ++ u32_bytes k) (Byte byte) (SpellsU32 n ▸ SpellsU32 k) (exactly (byte ∷ [])) (then (u32_bytes n) (u32_bytes k) (SpellsU32 n) (SpellsU32 k) (number n) (number k))
+two_numbers : (n k : ℕ) → NoLonger (u32_bytes n ++ u32_bytes k) (SpellsU32 n ▸ SpellsU32 k)
+two_numbers n k = then (u32_bytes n) (u32_bytes k) (SpellsU32 n) (SpellsU32 k) (number n) (number k)
 
-byte_alone : (byte : ℕ) → NoLonger (byte ∷ []) (Byte byte ▸ Exactly [])
-byte_alone byte = then (byte ∷ []) [] (Byte byte) (Exactly []) (exactly (byte ∷ [])) (exactly [])
+byte_numbers : (byte n k : ℕ) → NoLonger (byte ∷ (u32_bytes n ++ u32_bytes k)) (Byte byte ▸ SpellsU32 n ▸ SpellsU32 k)
+byte_numbers byte n k = then (byte ∷ []) (u32_bytes n ++ u32_bytes k) (Byte byte) (SpellsU32 n ▸ SpellsU32 k) (exactly (byte ∷ [])) (two_numbers n k)
 
 limits : (l : Limits) → NoLonger (limits_bytes l) (SpellsLimits l)
 limits l = go l.min l.max
@@ -97,31 +99,42 @@ exported : (e : Export) → NoLonger (export_bytes e) (SpellsExport e)
 exported e = then (sized e.name) (kind_byte e.kind ∷ u32_bytes e.index) (SpellsName e.name) (Byte (kind_byte e.kind) ▸ SpellsU32 e.index) (name e.name) (byte_number (kind_byte e.kind) e.index)
 
 -- instructions
-instruction : (i : Simple) → NoLonger (op_bytes (op.Simple i)) (SpellsSimple i)
-instruction (Br l) = byte_number _ l
-instruction (BrIf l) = byte_number _ l
-instruction (Call x) = byte_number _ x
-instruction (CallIndirect x) =
-    then (0x11 ∷ []) (u32_bytes x ++ 0x00 ∷ []) (Byte 0x11) (SpellsU32 x ▸ Byte 0x00) (exactly (0x11 ∷ [])) (then (u32_bytes x) (0x00 ∷ []) (SpellsU32 x) (Byte 0x00) (number x) (exactly (0x00 ∷ [])))
-instruction (LocalGet x) = byte_number _ x
-instruction (LocalSet x) = byte_number _ x
-instruction (LocalTee x) = byte_number _ x
-instruction (GlobalGet x) = byte_number _ x
-instruction (GlobalSet x) = byte_number _ x
-instruction MemorySize = then (0x3F ∷ []) (0x00 ∷ []) (Byte 0x3F) (Byte 0x00) (exactly (0x3F ∷ [])) (exactly (0x00 ∷ []))
-instruction MemoryGrow = then (0x40 ∷ []) (0x00 ∷ []) (Byte 0x40) (Byte 0x00) (exactly (0x40 ∷ [])) (exactly (0x00 ∷ []))
-instruction (I32Const n) = then (0x41 ∷ []) (signed_bytes 5 n) (Byte 0x41) (Signed 32 n) (exactly (0x41 ∷ [])) (λ b h. signed_is_least 32 5 n b h)
-instruction (I64Const n) = then (0x42 ∷ []) (signed_bytes 10 n) (Byte 0x42) (Signed 64 n) (exactly (0x42 ∷ [])) (λ b h. signed_is_least 64 10 n b h)
-instruction (F32Const n) = then (0x43 ∷ []) (float_bytes 4 n) (Byte 0x43) (SpellsFloat 4 n) (exactly (0x43 ∷ [])) (λ b h. exactly (float_bytes 4 n) b (float_one 4 n b h))
-instruction (F64Const n) = then (0x44 ∷ []) (float_bytes 8 n) (Byte 0x44) (SpellsFloat 8 n) (exactly (0x44 ∷ [])) (λ b h. exactly (float_bytes 8 n) b (float_one 8 n b h))
-instruction (Load o at) = byte_numbers _ at.align at.offset
-instruction (Store o at) = byte_numbers _ at.align at.offset
-instruction Unreachable = byte_alone _
-instruction Nop = byte_alone _
-instruction Return = byte_alone _
-instruction Drop = byte_alone _
-instruction Select = byte_alone _
-instruction (Numeric o) = byte_alone _
+table_index : (p : Profile) → NoLonger (0x00 ∷ []) (SpellsTable p)
+table_index p b (inl e) = exactly (0x00 ∷ []) b e
+table_index p [] (inr h) = absurd h.1
+table_index p (c ∷ b) (inr h) = omega arith
+
+in_opcode : (c : ℕ) → NoLonger (opcode_bytes c) (SpellsOpcode c)
+in_opcode c = by (nat_lt c 0x100)
+  where
+    by : (b : Bool) → NoLonger (cond b (c ∷ []) (0xFC ∷ u32_bytes (c - 0x100))) (SpellsOpcodeBy b c)
+    by true = exactly (c ∷ [])
+    by false = then (0xFC ∷ []) (u32_bytes (c - 0x100)) (Byte 0xFC) (SpellsU32 (c - 0x100)) (exactly (0xFC ∷ [])) (number (c - 0x100))
+
+in_immediates : (p : Profile) (i : Simple) → NoLonger (immediates i) (SpellsImmediates p i)
+in_immediates p (Br l) = number l
+in_immediates p (BrIf l) = number l
+in_immediates p (Call x) = number x
+in_immediates p (CallIndirect x) = then (u32_bytes x) (0x00 ∷ []) (SpellsU32 x) (SpellsTable p) (number x) (table_index p)
+in_immediates p (LocalGet x) = number x
+in_immediates p (LocalSet x) = number x
+in_immediates p (LocalTee x) = number x
+in_immediates p (GlobalGet x) = number x
+in_immediates p (GlobalSet x) = number x
+in_immediates p MemorySize = exactly (0x00 ∷ [])
+in_immediates p MemoryGrow = exactly (0x00 ∷ [])
+in_immediates p MemoryCopy = then (0x00 ∷ []) (0x00 ∷ []) (Byte 0x00) (Byte 0x00) (exactly (0x00 ∷ [])) (exactly (0x00 ∷ []))
+in_immediates p MemoryFill = exactly (0x00 ∷ [])
+in_immediates p (I32Const n) = λ b h. signed_is_least 32 5 n b h
+in_immediates p (I64Const n) = λ b h. signed_is_least 64 10 n b h
+in_immediates p (F32Const n) = λ b h. exactly (float_bytes 4 n) b (float_one 4 n b h)
+in_immediates p (F64Const n) = λ b h. exactly (float_bytes 8 n) b (float_one 8 n b h)
+in_immediates p (Load o at) = two_numbers at.align at.offset
+in_immediates p (Store o at) = two_numbers at.align at.offset
+in_immediates p _ = exactly []
+
+instruction : (p : Profile) (i : Simple) → NoLonger (op_bytes (op.Simple i)) (SpellsSimple p i)
+instruction p i = then (opcode_bytes (opcode i).0) (immediates i) (SpellsOpcode (opcode i).0) (SpellsImmediates p i) (in_opcode (opcode i).0) (in_immediates p i)
 
 block_type : (t : Option ValType) → NoLonger (block_byte t ∷ []) (SpellsBlockType t)
 block_type t = exactly (block_byte t ∷ [])
@@ -144,57 +157,57 @@ otherwise none P f = λ b h. omega arith
 otherwise (snoc s i) P f = then (0x05 ∷ []) (ops_bytes (ops_of (snoc s i))) (Byte 0x05) P (exactly (0x05 ∷ [])) f
 
 mutual
-  one : (i : Instruction) → NoLonger (ops_bytes (instruction_ops i)) (SpellsInstruction i)
-  one (simple i) = equal _ (op_bytes (op.Simple i)) (SpellsSimple i) (append-nil (op_bytes (op.Simple i))) (instruction i)
-  one (table ls d) =
+  one : (p : Profile) (i : Instruction) → NoLonger (ops_bytes (instruction_ops i)) (SpellsInstruction p i)
+  one p (simple i) = equal _ (op_bytes (op.Simple i)) (SpellsSimple p i) (append-nil (op_bytes (op.Simple i))) (instruction p i)
+  one p (table ls d) =
       let e : ops_bytes (map op.Label ls ++ op.Label d ∷ []) ≡ flat_map u32_bytes ls ++ u32_bytes d =
       flat_map-append op_bytes (map op.Label ls) (op.Label d ∷ []) ∙ ap (λ z. z ++ (u32_bytes d ++ [])) (labels ls) ∙ ap (λ z. flat_map u32_bytes ls ++ z) (append-nil (u32_bytes d)) in
       equal _ (0x0E ∷ (listed u32_bytes ls ++ u32_bytes d)) _
       (ap (λ z. 0x0E ∷ (u32_bytes (length ls) ++ z)) e ∙ ap (λ z. 0x0E ∷ z) (sym (append_assoc (u32_bytes (length ls)) (flat_map u32_bytes ls) (u32_bytes d))))
       (then (0x0E ∷ []) (listed u32_bytes ls ++ u32_bytes d) (Byte 0x0E) (SpellsList SpellsU32 ls ▸ SpellsU32 d) (exactly (0x0E ∷ []))
       (then (listed u32_bytes ls) (u32_bytes d) (SpellsList SpellsU32 ls) (SpellsU32 d) (list u32_bytes SpellsU32 number ls) (number d)))
-  one (block t s) =
+  one p (block t s) =
       equal _ (0x02 ∷ block_byte t ∷ (ops_bytes (ops_of s) ++ 0x0B ∷ [])) _ (ap (λ z. 0x02 ∷ block_byte t ∷ z) (flat_map-append op_bytes (ops_of s) (op.End ∷ [])))
-      (between 0x02 t (ops_bytes (ops_of s)) (SpellsInstructions s) (some s))
-  one (loop t s) =
+      (between 0x02 t (ops_bytes (ops_of s)) (SpellsInstructions p s) (some p s))
+  one p (loop t s) =
       equal _ (0x03 ∷ block_byte t ∷ (ops_bytes (ops_of s) ++ 0x0B ∷ [])) _ (ap (λ z. 0x03 ∷ block_byte t ∷ z) (flat_map-append op_bytes (ops_of s) (op.End ∷ [])))
-      (between 0x03 t (ops_bytes (ops_of s)) (SpellsInstructions s) (some s))
-  one (choice t f s) =
+      (between 0x03 t (ops_bytes (ops_of s)) (SpellsInstructions p s) (some p s))
+  one p (choice t f s) =
       let first = ops_bytes (ops_of f) in
       let second = ops_bytes (else_ops s (ops_of s)) in
       let e : ops_bytes ((ops_of f ++ else_ops s (ops_of s)) ++ op.End ∷ []) ≡ first ++ (second ++ 0x0B ∷ []) =
       flat_map-append op_bytes (ops_of f ++ else_ops s (ops_of s)) (op.End ∷ []) ∙ ap (λ z. z ++ 0x0B ∷ []) (flat_map-append op_bytes (ops_of f) (else_ops s (ops_of s))) ∙ append_assoc first second (0x0B ∷ []) in
       equal _ (0x04 ∷ block_byte t ∷ (first ++ (second ++ 0x0B ∷ []))) _ (ap (λ z. 0x04 ∷ block_byte t ∷ z) e)
-      (then (0x04 ∷ []) (block_byte t ∷ (first ++ (second ++ 0x0B ∷ []))) (Byte 0x04) (SpellsBlockType t ▸ SpellsInstructions f ▸ SpellsElse s (SpellsInstructions s) ▸ Byte 0x0B) (exactly (0x04 ∷ []))
-      (then (block_byte t ∷ []) (first ++ (second ++ 0x0B ∷ [])) (SpellsBlockType t) (SpellsInstructions f ▸ SpellsElse s (SpellsInstructions s) ▸ Byte 0x0B) (block_type t)
-      (then first (second ++ 0x0B ∷ []) (SpellsInstructions f) (SpellsElse s (SpellsInstructions s) ▸ Byte 0x0B) (some f)
-      (then second (0x0B ∷ []) (SpellsElse s (SpellsInstructions s)) (Byte 0x0B) (otherwise s (SpellsInstructions s) (some s)) (exactly (0x0B ∷ []))))))
+      (then (0x04 ∷ []) (block_byte t ∷ (first ++ (second ++ 0x0B ∷ []))) (Byte 0x04) (SpellsBlockType t ▸ SpellsInstructions p f ▸ SpellsElse s (SpellsInstructions p s) ▸ Byte 0x0B) (exactly (0x04 ∷ []))
+      (then (block_byte t ∷ []) (first ++ (second ++ 0x0B ∷ [])) (SpellsBlockType t) (SpellsInstructions p f ▸ SpellsElse s (SpellsInstructions p s) ▸ Byte 0x0B) (block_type t)
+      (then first (second ++ 0x0B ∷ []) (SpellsInstructions p f) (SpellsElse s (SpellsInstructions p s) ▸ Byte 0x0B) (some p f)
+      (then second (0x0B ∷ []) (SpellsElse s (SpellsInstructions p s)) (Byte 0x0B) (otherwise s (SpellsInstructions p s) (some p s)) (exactly (0x0B ∷ []))))))
 
-  some : (s : Instructions) → NoLonger (ops_bytes (ops_of s)) (SpellsInstructions s)
-  some none = exactly []
-  some (snoc s i) =
+  some : (p : Profile) (s : Instructions) → NoLonger (ops_bytes (ops_of s)) (SpellsInstructions p s)
+  some p none = exactly []
+  some p (snoc s i) =
       equal _ (ops_bytes (ops_of s) ++ ops_bytes (instruction_ops i)) _ (flat_map-append op_bytes (ops_of s) (instruction_ops i))
-      (then (ops_bytes (ops_of s)) (ops_bytes (instruction_ops i)) (SpellsInstructions s) (SpellsInstruction i) (some s) (one i))
+      (then (ops_bytes (ops_of s)) (ops_bytes (instruction_ops i)) (SpellsInstructions p s) (SpellsInstruction p i) (some p s) (one p i))
 
-expression : (s : Instructions) → NoLonger (ops_bytes (ops_of s) ++ 0x0B ∷ []) (SpellsExpression s)
-expression s = then (ops_bytes (ops_of s)) (0x0B ∷ []) (SpellsInstructions s) (Byte 0x0B) (some s) (exactly (0x0B ∷ []))
+expression : (p : Profile) (s : Instructions) → NoLonger (ops_bytes (ops_of s) ++ 0x0B ∷ []) (SpellsExpression p s)
+expression p s = then (ops_bytes (ops_of s)) (0x0B ∷ []) (SpellsInstructions p s) (Byte 0x0B) (some p s) (exactly (0x0B ∷ []))
 
-constant_expression : (c : Const) → NoLonger (constant_bytes c) (SpellsConst c)
-constant_expression c = equal _ _ (SpellsConst c) (ap (λ z. z ++ 0x0B ∷ []) (sym (append-nil (op_bytes (op.Simple (constant c)))))) (expression (constant_body c))
+constant_expression : (p : Profile) (c : Const) → NoLonger (constant_bytes c) (SpellsConst p c)
+constant_expression p c = equal _ _ (SpellsConst p c) (ap (λ z. z ++ 0x0B ∷ []) (sym (append-nil (op_bytes (op.Simple (constant c)))))) (expression p (constant_body c))
 
 -- entries
-defined : (g : GlobalDef) → NoLonger (global_bytes g) (SpellsGlobal g)
-defined g = then (global_type_bytes g.ty) (constant_bytes g.init) (SpellsGlobalType g.ty) (SpellsConst g.init) (global_type g.ty) (constant_expression g.init)
+defined : (p : Profile) (g : GlobalDef) → NoLonger (global_bytes g) (SpellsGlobal p g)
+defined p g = then (global_type_bytes g.ty) (constant_bytes g.init) (SpellsGlobalType g.ty) (SpellsConst p g.init) (global_type g.ty) (constant_expression p g.init)
 
-element : (e : Element) → NoLonger (element_bytes e) (SpellsElement e)
-element e =
-    then (u32_bytes e.table) (constant_bytes e.offset ++ listed u32_bytes e.functions) (SpellsU32 e.table) (SpellsConst e.offset ▸ SpellsList SpellsU32 e.functions) (number e.table)
-    (then (constant_bytes e.offset) (listed u32_bytes e.functions) (SpellsConst e.offset) (SpellsList SpellsU32 e.functions) (constant_expression e.offset) (list u32_bytes SpellsU32 number e.functions))
+element : (p : Profile) (e : Element) → NoLonger (element_bytes e) (SpellsElement p e)
+element p e =
+    then (u32_bytes e.table) (constant_bytes e.offset ++ listed u32_bytes e.functions) (SpellsU32 e.table) (SpellsConst p e.offset ▸ SpellsList SpellsU32 e.functions) (number e.table)
+    (then (constant_bytes e.offset) (listed u32_bytes e.functions) (SpellsConst p e.offset) (SpellsList SpellsU32 e.functions) (constant_expression p e.offset) (list u32_bytes SpellsU32 number e.functions))
 
-segment : (s : Segment) → NoLonger (segment_bytes s) (SpellsSegment s)
-segment s =
-    then (u32_bytes s.memory) (constant_bytes s.offset ++ sized s.bytes) (SpellsU32 s.memory) (SpellsConst s.offset ▸ SpellsBytes s.bytes) (number s.memory)
-    (then (constant_bytes s.offset) (sized s.bytes) (SpellsConst s.offset) (SpellsBytes s.bytes) (constant_expression s.offset) (bytes s.bytes))
+segment : (p : Profile) (s : Segment) → NoLonger (segment_bytes s) (SpellsSegment p s)
+segment p s =
+    then (u32_bytes s.memory) (constant_bytes s.offset ++ sized s.bytes) (SpellsU32 s.memory) (SpellsConst p s.offset ▸ SpellsBytes s.bytes) (number s.memory)
+    (then (constant_bytes s.offset) (sized s.bytes) (SpellsConst p s.offset) (SpellsBytes s.bytes) (constant_expression p s.offset) (bytes s.bytes))
 
 run : (p : Profile) (r : ℕ × ValType) → NoLonger (run_bytes r) (SpellsRun p r)
 run p r b h = then (u32_bytes r.0) (value_type_bytes r.1) (SpellsU32 r.0) (SpellsValType r.1) (number r.0) (value_type r.1) b h.1
@@ -206,7 +219,7 @@ locals p ts b (runs, is, few, h) =
 
 code : (p : Profile) (f : Function) → NoLonger (code_bytes f) (SpellsCode p f)
 code p f b (size, contents, is, h, k) =
-    let l = then (listed run_bytes (runs_of f.locals)) (ops_bytes (ops_of f.body) ++ 0x0B ∷ []) (SpellsLocals p f.locals) (SpellsExpression f.body) (locals p f.locals) (expression f.body) contents k in
+    let l = then (listed run_bytes (runs_of f.locals)) (ops_bytes (ops_of f.body) ++ 0x0B ∷ []) (SpellsLocals p f.locals) (SpellsExpression p f.body) (locals p f.locals) (expression p f.body) contents k in
     omega (arith, ap length is, length-append size contents, length-append (u32_bytes (length (code_contents f))) (code_contents f), l, number (length contents) size h, number_rises (length (code_contents f)) (length contents) l)
 
 -- sections: their contents are as long as a size can be, or not there
@@ -233,11 +246,11 @@ spelled_fits p m b h =
       functions = in_section 3 (λ f. u32_bytes f.type_index) (λ f. SpellsU32 f.type_index) (λ f. number f.type_index) m.functions _ s3.4.3;
       tables = in_section 4 table_bytes SpellsTableType table_type m.tables _ s4.4.3;
       memories = in_section 5 limits_bytes SpellsLimits limits m.memories _ s5.4.3;
-      globals = in_section 6 global_bytes SpellsGlobal defined m.globals _ s6.4.3;
+      globals = in_section 6 global_bytes (SpellsGlobal p) (defined p) m.globals _ s6.4.3;
       exports = in_section 7 export_bytes SpellsExport exported m.exports _ s7.4.3;
-      elements = in_section 9 element_bytes SpellsElement element m.elements _ s9.4.3;
+      elements = in_section 9 element_bytes (SpellsElement p) (element p) m.elements _ s9.4.3;
       codes = in_section 10 code_bytes (SpellsCode p) (code p) m.functions _ s10.4.3;
-      segments = in_section 11 segment_bytes SpellsSegment segment m.segments _ s11.4.3;
+      segments = in_section 11 segment_bytes (SpellsSegment p) (segment p) m.segments _ s11.4.3;
     }
 
 section : {X : Type 0} (id : ℕ) (f : X → List ℕ) (S : X → Form ℕ) → ((x : X) → NoLonger (f x) (S x)) → (xs : List X) → NoLonger (list_section id f xs) (ListSection id S xs)
@@ -273,12 +286,12 @@ canon_shortest p m =
     (both (list_section 3 (λ f. u32_bytes f.type_index) m.functions) _ (ListSection 3 (λ f. SpellsU32 f.type_index) m.functions) _ (section 3 (λ f. u32_bytes f.type_index) (λ f. SpellsU32 f.type_index) (λ f. number f.type_index) m.functions)
     (both (list_section 4 table_bytes m.tables) _ (ListSection 4 SpellsTableType m.tables) _ (section 4 table_bytes SpellsTableType table_type m.tables)
     (both (list_section 5 limits_bytes m.memories) _ (ListSection 5 SpellsLimits m.memories) _ (section 5 limits_bytes SpellsLimits limits m.memories)
-    (both (list_section 6 global_bytes m.globals) _ (ListSection 6 SpellsGlobal m.globals) _ (section 6 global_bytes SpellsGlobal defined m.globals)
+    (both (list_section 6 global_bytes m.globals) _ (ListSection 6 (SpellsGlobal p) m.globals) _ (section 6 global_bytes (SpellsGlobal p) (defined p) m.globals)
     (both (list_section 7 export_bytes m.exports) _ (ListSection 7 SpellsExport m.exports) _ (section 7 export_bytes SpellsExport exported m.exports)
     (both (start_section m.start) _ (StartSection m.start) _ (started m.start)
-    (both (list_section 9 element_bytes m.elements) _ (ListSection 9 SpellsElement m.elements) _ (section 9 element_bytes SpellsElement element m.elements)
+    (both (list_section 9 element_bytes m.elements) _ (ListSection 9 (SpellsElement p) m.elements) _ (section 9 element_bytes (SpellsElement p) (element p) m.elements)
     (both (list_section 10 code_bytes m.functions) _ (ListSection 10 (SpellsCode p) m.functions) _ (section 10 code_bytes (SpellsCode p) (code p) m.functions)
-    (last (list_section 11 segment_bytes m.segments) (ListSection 11 SpellsSegment m.segments) (section 11 segment_bytes SpellsSegment segment m.segments))))))))))))
+    (last (list_section 11 segment_bytes m.segments) (ListSection 11 (SpellsSegment p) m.segments) (section 11 segment_bytes (SpellsSegment p) (segment p) m.segments))))))))))))
 
 pub shortest_sections : (m : Module) → HasShortestSections m
 shortest_sections m = record {
@@ -287,10 +300,10 @@ shortest_sections m = record {
   functions = list (λ f. u32_bytes f.type_index) (λ f. SpellsU32 f.type_index) (λ f. number f.type_index) m.functions;
   tables = list table_bytes SpellsTableType table_type m.tables;
   memories = list limits_bytes SpellsLimits limits m.memories;
-  globals = list global_bytes SpellsGlobal defined m.globals;
+  globals = λ p. list global_bytes (SpellsGlobal p) (defined p) m.globals;
   exports = list export_bytes SpellsExport exported m.exports;
   start = λ x is. number x;
-  elements = list element_bytes SpellsElement element m.elements;
+  elements = λ p. list element_bytes (SpellsElement p) (element p) m.elements;
   codes = λ p. list code_bytes (SpellsCode p) (code p) m.functions;
-  segments = list segment_bytes SpellsSegment segment m.segments;
+  segments = λ p. list segment_bytes (SpellsSegment p) (segment p) m.segments;
 }

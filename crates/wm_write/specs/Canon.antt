@@ -1,10 +1,11 @@
 -- The canonical binary of a module (Core spec 5.5). Numbers have the fewest bytes, and locals are in maximal runs of
 -- one type. The binary has no empty section, no custom section, and no else before an empty second branch.
 use Rattle.std.specs.Prelude.{ℕ, ◌≡◌, ◌<◌, ◌≤◌, ◌^◌, List, [], ◌∷◌, ◌++◌, Option, Some, None, Bool, true}
-use Rattle.std.specs.Prelude.{false, ℤ, length, flat_map}
+use Rattle.std.specs.Prelude.{false, ℤ, length, flat_map, nat_lt, ◌-◌, if◌then◌else◌}
 use Rattle.wm_machine.specs.Sections.{header, kind_byte, SpellsImport, SpellsGlobal, SpellsExport}
 use Rattle.wm_machine.specs.Sections.{SpellsElement, SpellsCode, SpellsSegment}
-use Rattle.wm_syntax.specs.Instructions.{float_bytes, ops_of}
+use Rattle.wm_syntax.specs.Instructions.{ops_of}
+use Rattle.wm_syntax.specs.Encodings.{float_bytes}
 use Rattle.wm_syntax.specs.Leb128.{signed_bytes, unsigned_bytes}
 use Rattle.wm_syntax.specs.Modules.{Import, Function, GlobalDef, Export, Element, Segment, Module, constant}
 use Rattle.wm_syntax.specs.Opcodes.{opcode}
@@ -17,6 +18,7 @@ use Rattle.wm_syntax.specs.declared.instructions.Op.{Op}
 use Rattle.wm_syntax.specs.declared.instructions.Simple.TheVariants.{Br, BrIf, Call, CallIndirect, LocalGet}
 use Rattle.wm_syntax.specs.declared.instructions.Simple.TheVariants.{LocalSet, LocalTee, GlobalGet, GlobalSet}
 use Rattle.wm_syntax.specs.declared.instructions.Simple.TheVariants.{MemorySize, MemoryGrow, I32Const}
+use Rattle.wm_syntax.specs.declared.instructions.Simple.TheVariants.{MemoryCopy, MemoryFill}
 use Rattle.wm_syntax.specs.declared.instructions.Simple.TheVariants.{I64Const, F32Const, F64Const}
 use Rattle.wm_syntax.specs.declared.instructions.Simple.TheVariants.{Load, Store}
 use Rattle.wm_syntax.specs.declared.instructions.Simple.{Simple}
@@ -38,7 +40,11 @@ s32_bytes z = signed_bytes 5 z
 abbrev pub s64_bytes : ℤ → List ℕ
 s64_bytes z = signed_bytes 10 z
 
--- The bytes after the first byte of an instruction (Core spec 5.4.1 to 5.4.5).
+-- The bytes of a code: the code itself if it is a byte, else FC and a number (Core spec 5.4, WebAssembly 2.0 5.4).
+abbrev pub opcode_bytes : ℕ → List ℕ
+opcode_bytes c = if nat_lt c 0x100 then c ∷ [] else 0xFC ∷ u32_bytes (c - 0x100)
+
+-- The bytes after the code of an instruction (Core spec 5.4.1 to 5.4.5, WebAssembly 2.0 5.4.6).
 abbrev pub immediates : Simple → List ℕ
 immediates (Br l) = u32_bytes l
 immediates (BrIf l) = u32_bytes l
@@ -51,6 +57,8 @@ immediates (GlobalGet x) = u32_bytes x
 immediates (GlobalSet x) = u32_bytes x
 immediates MemorySize = 0x00 ∷ []
 immediates MemoryGrow = 0x00 ∷ []
+immediates MemoryCopy = 0x00 ∷ 0x00 ∷ []
+immediates MemoryFill = 0x00 ∷ []
 immediates (I32Const n) = s32_bytes n
 immediates (I64Const n) = s64_bytes n
 immediates (F32Const n) = float_bytes 4 n
@@ -61,7 +69,7 @@ immediates _ = []
 
 -- The bytes of an op (Core spec 5.4).
 abbrev pub op_bytes : Op → List ℕ
-op_bytes (op.Simple i) = (opcode i).0 ∷ immediates i
+op_bytes (op.Simple i) = opcode_bytes (opcode i).0 ++ immediates i
 op_bytes (op.Block t) = 0x02 ∷ block_byte t ∷ []
 op_bytes (op.Loop t) = 0x03 ∷ block_byte t ∷ []
 op_bytes (op.If t) = 0x04 ∷ block_byte t ∷ []
@@ -211,9 +219,9 @@ pub record HasShortestSections (m : Module) : Type 0 where
   pub functions : IsShortest (λ f. u32_bytes f.type_index) (λ f. SpellsU32 f.type_index) m.functions
   pub tables : IsShortest table_bytes SpellsTableType m.tables
   pub memories : IsShortest limits_bytes SpellsLimits m.memories
-  pub globals : IsShortest global_bytes SpellsGlobal m.globals
+  pub globals : (p : Profile) → IsShortest global_bytes (SpellsGlobal p) m.globals
   pub exports : IsShortest export_bytes SpellsExport m.exports
   pub start : (x : ℕ) → m.start ≡ Some x → NoLonger (u32_bytes x) (SpellsU32 x)
-  pub elements : IsShortest element_bytes SpellsElement m.elements
+  pub elements : (p : Profile) → IsShortest element_bytes (SpellsElement p) m.elements
   pub codes : (p : Profile) → IsShortest code_bytes (SpellsCode p) m.functions
-  pub segments : IsShortest segment_bytes SpellsSegment m.segments
+  pub segments : (p : Profile) → IsShortest segment_bytes (SpellsSegment p) m.segments

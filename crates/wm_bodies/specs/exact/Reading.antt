@@ -247,6 +247,8 @@ module _ (use_at : Reader ℕ) where
   kind_at p sc bs k.GlobalSet = simple_at s.GlobalSet (atom_at (index_of sc.names.globals))
   kind_at p sc bs k.MemorySize = λ k. Some (plain s.MemorySize, k)
   kind_at p sc bs k.MemoryGrow = λ k. Some (plain s.MemoryGrow, k)
+  kind_at p sc bs k.MemoryCopy = λ k. Some (plain s.MemoryCopy, k)
+  kind_at p sc bs k.MemoryFill = λ k. Some (plain s.MemoryFill, k)
   kind_at p sc bs k.I32Const = simple_at s.I32Const (atom_at (integer_of 32))
   kind_at p sc bs k.I64Const = simple_at s.I64Const (atom_at (integer_of 64))
   kind_at p sc bs k.F32Const = simple_at s.F32Const (atom_at (float_of float.F32))

@@ -5,15 +5,16 @@ ghost use Rattle.wm_write.specs.Canon.{desc_bytes, global_type_bytes, limits_byt
 ghost use Rattle.wm_write.specs.Canon.{op_bytes, u32_bytes};
 ghost use Rattle.wm_machine.specs.Sections.{kind_byte};
 ghost use Rattle.wm_syntax.specs.declared.instructions.Op.{Op};
-ghost use Rattle.wm_syntax.specs.Instructions.{float_bytes};
+ghost use Rattle.wm_syntax.specs.Encodings.{float_bytes};
 ghost use Rattle.wm_syntax.specs.Leb128.{signed_bytes};
 ghost use Rattle.wm_syntax.specs.Modules.{constant};
+ghost use Rattle.wm_syntax.specs.Opcodes.{opcode};
 ghost use Rattle.wm_syntax.specs.Types.{block_byte, type_byte};
 
 use crate::batch::Batch;
 use wm_syntax::chunk::Chunk;
-use wm_syntax::instructions::opcodes::first_byte;
-use wm_syntax::instructions::{Op, Simple};
+use wm_syntax::instructions::opcodes::code;
+use wm_syntax::instructions::{Numeric, Op, Simple};
 use wm_syntax::modules::{ExportKind, ImportDesc};
 use wm_syntax::types::{Const, GlobalType, Limits, ValType};
 
@@ -166,7 +167,7 @@ fn push_i32_const(batch: &mut Batch, value: i32)
     }
 }
 
-// Appends the immediates of an instruction, which follow its first byte. They are at most ten bytes.
+// Appends the immediates of an instruction, which follow its code. They are at most ten bytes.
 fn push_immediates(batch: &mut Batch, simple: Simple)
     requires { length batch.old + 10 ≤ 64 }
     ensures text { batch.new ≡ batch.old ++ immediates simple }
@@ -185,7 +186,8 @@ fn push_immediates(batch: &mut Batch, simple: Simple)
             push_number(batch, index);
             batch.push_byte(0x00);
         }
-        Simple::MemorySize | Simple::MemoryGrow => batch.push_byte(0x00),
+        Simple::MemorySize | Simple::MemoryGrow | Simple::MemoryFill => batch.push_byte(0x00),
+        Simple::MemoryCopy => batch.push_two(0x00, 0x00),
         Simple::I32Const(value) => push_signed(batch, i64::from(value), 5),
         Simple::I64Const(value) => push_signed(batch, value, 10),
         Simple::F32Const(bits) => push_float(batch, u64::from(bits), 4),
@@ -228,8 +230,29 @@ fn push_rare(batch: &mut Batch, simple: Simple)
     ensures text { batch.new ≡ batch.old ++ op_bytes (Op.Simple simple) }
     ensures short { length batch.new ≤ length batch.old + 11 }
 {
-    batch.push_byte(first_byte(simple));
-    push_immediates(batch, simple);
+    let code = code(simple);
+    if code < 0x100 {
+        batch.push_byte(code as u8);
+        push_immediates(batch, simple);
+    } else {
+        push_prefixed(batch, code, simple);
+    }
+}
+
+// Appends an instruction behind the prefix FC, whose code this is: at most four bytes.
+fn push_prefixed(batch: &mut Batch, code: u16, simple: Simple)
+    requires room { length batch.old + 11 ≤ 64 }
+    requires prefixed { 0x100 ≤ code }
+    requires value { code ≡ (opcode simple).0 }
+    ensures text { batch.new ≡ batch.old ++ op_bytes (Op.Simple simple) }
+    ensures short { length batch.new ≤ length batch.old + 11 }
+{
+    batch.push_two(0xFC, (code - 0x100) as u8);
+    match simple {
+        Simple::MemoryCopy => batch.push_two(0x00, 0x00),
+        Simple::MemoryFill => batch.push_byte(0x00),
+        _ => {}
+    }
 }
 
 // Appends an instruction. Common ones take fast paths.
@@ -250,11 +273,12 @@ fn push_simple(batch: &mut Batch, simple: &Simple)
         Simple::GlobalSet(index) => push_indexed(batch, 0x24, *index),
         Simple::I32Const(value) => push_i32_const(batch, *value),
         Simple::Load(_, at) | Simple::Store(_, at) => {
-            batch.push_byte(first_byte(*simple));
+            batch.push_byte(code(*simple) as u8);
             push_number(batch, at.align);
             push_number(batch, at.offset);
         }
-        Simple::Numeric(_) => batch.push_byte(first_byte(*simple)),
+        Simple::Numeric(Numeric::Saturate(_)) => push_rare(batch, *simple),
+        Simple::Numeric(_) => batch.push_byte(code(*simple) as u8),
         _ => push_rare(batch, *simple),
     }
 }

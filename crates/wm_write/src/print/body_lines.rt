@@ -3,7 +3,7 @@
 ghost use Rattle.std.specs.Prelude.{◌≡◌, ◌+◌, ◌^◌, ◌≤◌, ◌++◌, IsTrue, Some, codes, length, map};
 ghost use Rattle.std.specs.List.{list_all};
 ghost use Rattle.wm_syntax.specs.declared.instructions.Op.{Op};
-ghost use Rattle.wm_syntax.specs.OpClasses.{first_byte};
+ghost use Rattle.wm_syntax.specs.OpClasses.{code};
 ghost use Rattle.wm_syntax.specs.OpNames.{op_name};
 ghost use Rattle.wm_syntax.specs.Runs.{runs_of};
 ghost use Rattle.wm_syntax.specs.Modules.{locals_of};
@@ -20,7 +20,7 @@ use crate::print::tokens::{push_type_use, put_run, type_bytes};
 use crate::put::put_bytes;
 use wm_syntax::instructions::accesses::{loaded, stored};
 use wm_syntax::instructions::op_names::name_of;
-use wm_syntax::instructions::opcodes::first_byte;
+use wm_syntax::instructions::opcodes::code;
 use wm_syntax::instructions::{LoadOp, MemArg, Op, Simple, StoreOp};
 use wm_syntax::io::Dest;
 use wm_syntax::modules::locals::Locals;
@@ -62,13 +62,13 @@ fn push_access(line: &mut Batch, width: u32, at: MemArg)
     push_key(line, b"align=", width, power(at.align));
 }
 
-// Returns the first byte of an op. A label has none.
+// Returns the code of an op. A label has none.
 #[inline(always)]
-fn op_byte(op: &Op) -> Option<u8>
-    ensures { result ≡ first_byte op.now }
+fn op_code(op: &Op) -> Option<u16>
+    ensures { result ≡ code op.now }
 {
     match op {
-        Op::Simple(simple) => Some(first_byte(*simple)),
+        Op::Simple(simple) => Some(code(*simple)),
         Op::Block(_) => Some(0x02),
         Op::Loop(_) => Some(0x03),
         Op::If(_) => Some(0x04),
@@ -79,12 +79,12 @@ fn op_byte(op: &Op) -> Option<u8>
     }
 }
 
-// Returns the name of the op that begins with this byte, at most 19 bytes.
-fn name(byte: u8) -> &'static [u8]
-    ensures named { (op : Op) → first_byte op ≡ Some byte → op_name op ≡ Some result.now }
+// Returns the name of the op with this code, at most 19 bytes.
+fn name(wanted: u16) -> &'static [u8]
+    ensures named { (op : Op) → code op ≡ Some wanted → op_name op ≡ Some result.now }
     ensures short { length result.now ≤ 19 }
 {
-    name_of(byte)
+    name_of(wanted)
 }
 
 // Appends the name of an op on a new line, at most 24 bytes. A label has no name.
@@ -94,9 +94,9 @@ fn push_name(line: &mut Batch, op: &Op)
     ensures text { line.new ≡ line.old ++ words_text (head_words (op_name op.now)) }
     ensures short { length line.new ≤ length line.old + 24 }
 {
-    if let Some(byte) = op_byte(op) {
+    if let Some(code) = op_code(op) {
         line.push(b"\n    ");
-        line.push(name(byte));
+        line.push(name(code));
     }
 }
 
@@ -129,6 +129,8 @@ fn push_immediates(line: &mut Batch, simple: &Simple)
         | Simple::Select
         | Simple::MemorySize
         | Simple::MemoryGrow
+        | Simple::MemoryCopy
+        | Simple::MemoryFill
         | Simple::Numeric(_) => {}
     }
 }
@@ -278,7 +280,7 @@ pub(crate) fn put_const<W: Dest>(w: &mut W, written: &mut u64, value: Const)
     let instruction = instruction_of(value);
     let mut line = Batch::new();
     line.push(b" ");
-    line.push(name(first_byte(instruction)));
+    line.push(name(code(instruction)));
     push_immediates(&mut line, &instruction);
     put_bytes(w, written, line.as_slice());
 }

@@ -1,5 +1,5 @@
 use Rattle.std.proofs.Common.{◌≡◌, ◌+◌, ◌-◌, ◌/◌, ◌%◌, [], ◌∷◌, ap, ◌∙◌, ℕ, arith, length, length-append}
-use Rattle.wm_syntax.specs.Instructions.{float_bytes}
+use Rattle.wm_syntax.specs.Encodings.{float_bytes}
 use Rattle.wm_syntax.proofs.NumberLoops.{none_out, one_out}
 use Rattle.wm_write.proofs.FloatPieces.{more_float}
 use Rattle.wm_write.proofs.encode.spell.push_float.Goals as goal

@@ -1,5 +1,5 @@
 use Rattle.std.proofs.Common.{◌≡◌, ◌≤◌, ◌+◌, ◌-◌, ◌++◌, length}
-use Rattle.wm_syntax.specs.Instructions.{float_bytes}
+use Rattle.wm_syntax.specs.Encodings.{float_bytes}
 use Rattle.wm_write.proofs.encode.spell.push_float.Given as goal
 
 -- The bytes in the batch, then the remaining bits in the remaining bytes, are the float.

@@ -10,5 +10,5 @@ returns g c =
     sent_same _ _ _ _
     (c.as_slice.ensures
     ∙ const_line c.args.value i c.name.result.now _ _ _ _ c.instruction_of-instruction.ensures
-    (c.name.ensures.named (op.Simple i) (ap Some (sym c.first_byte.ensures))) c.new-line.ensures c.push.ensures c.push-2.ensures c.push_immediates.ensures)
+    (c.name.ensures.named (op.Simple i) (ap Some (sym c.code.ensures.value))) c.new-line.ensures c.push.ensures c.push-2.ensures c.push_immediates.ensures)
     c.put_bytes.ensures
