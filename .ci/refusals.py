@@ -1,6 +1,7 @@
 #!/usr/bin/env python3
 """Checks that docs/REFUSALS.md, wm_rows, `wmod explain`, the header and the crate for cargo agree on refusals.
-Also checks that docs/LIMITS.md has the table of later features, and that the tests have each of its lines.
+Also checks that docs/LIMITS.md has the table of later features, and that the tests have each of its lines. And that
+docs/COMMAND.md, the header and the crate for cargo have the words of `--features`.
 
     .ci/refusals.py
 
@@ -9,6 +10,7 @@ runs, with a row for each printed name. The tables of the page must also have th
 Each name of the header must have such a line. The crate for cargo must have the numbers and NAMEs of the header, and
 the sentences of these lines. c_calls.py compares the lines with the answers of `wmod_explain`.
 """
+import collections
 import pathlib
 import re
 import sys
@@ -21,9 +23,12 @@ TEXT_WORDS = "crates/wm_tokens/src/faults.rt"
 TABLE = "crates/wm_refusals/src/tables.rt"
 LIMITS = "docs/LIMITS.md"
 HINTS = "crates/wm_command/src/hints.rt"
+FEATURES = "crates/wm_command/src/features.rt"
+COMMAND = "docs/COMMAND.md"
 DETAILS = "crates/wm_cli/src/tests/details.rt"
 HEADER = "crates/wm_c/include/wmod.h"
 CRATE = "rust/src/why.rs"
+OPTIONS = "rust/src/options.rs"
 
 # the headings in wm_rows of the rows of each table
 INPUTS = "# The smallest inputs of the refusals"
@@ -95,8 +100,29 @@ def hinted(top):
     rows = [it.replace("`", "") for it in row.findall((top / LIMITS).read_text(encoding="utf8")) if it[0] == "`"]
     said = (top / DETAILS).read_text(encoding="utf8")
     cells = [line.split(" | ") for line in lines]
-    faults = [f"no row in {DETAILS}: {begins} ({feature})" for *_, begins, feature, _ in cells if f": {begins} ({feature}); " not in said]
+    # lines that say the same have a test each
+    needed = collections.Counter(f": {begins} ({feature}); " for *_, begins, feature, _ in cells)
+    faults = [f"fewer than {count} rows in {DETAILS}{it}" for it, count in needed.items() if said.count(it) < count]
     return faults + ([] if rows == lines else [f"not in both {LIMITS} and {HINTS}, or in another order: {it}" for it in {*rows} ^ {*lines} or rows])
+
+
+def unlike_features(top):
+    """Returns a fault for each file that has other words of `--features` than the table, other sentences, or another order."""
+    text = {file: (top / file).read_text(encoding="utf8").replace("`", "") for file in (FEATURES, COMMAND, HEADER, OPTIONS)}
+    rows = re.findall(r'^ +"([\w-]+)" => \[[\w, ]+\], "(.+)";$', text[FEATURES], re.M)
+    table = re.search(r"^\| --features \| Adds \|\n\|---\|---\|\n((?:\|.*\n)*)", text[COMMAND], re.M)
+    found = {
+        COMMAND: re.findall(r"^\| ([\w-]+) \| (.+) \|$", table[1], re.M) if table else [],
+        HEADER: [it for name, *it in re.findall(r"^#define (WMOD_\w+) 0x\d+u /\* ([\w-]+): (.+) \*/$", text[HEADER], re.M) if name == constant_of(it[0])],
+        OPTIONS: re.findall(r"^ +/// ([\w-]+): (.+)\.\n +\w+,$", text[OPTIONS], re.M),
+    }
+    lost = [] if rows else [f"{FEATURES} has no row"]
+    return lost + [f"other words of --features in {file} than in {FEATURES}" for file, these in found.items() if [*map(tuple, these)] != rows]
+
+
+def constant_of(word):
+    """Returns the name of a word of `--features` in the header."""
+    return "WMOD_" + word.upper().replace("-", "_")
 
 
 def rows_of_crate(top):
@@ -163,7 +189,7 @@ def faults_of(top):
     faults += faults_of_rows(list(text_rows_of_page(page)), rows_of_group(top, TEXTS), text_words)
     if words_without_input(page) != WITHOUT_INPUT:
         faults.append(f"rows in {PAGE} without a smallest input: {words_without_input(page)}")
-    return faults + explained(top, page) + unexplained(top) + hinted(top) + unlike_crate(top)
+    return faults + explained(top, page) + unexplained(top) + hinted(top) + unlike_crate(top) + unlike_features(top)
 
 
 def main():

@@ -26,20 +26,22 @@ pub const OF_MODULES: &str = "\
         section before it. | 5.5.15 | `0A 01 01`: refused at 11 | Give the function section and the \
         code section the same count.\n\
     BadNumber | An integer has more bytes than its type allows, or its value does not fit the type. \
-        | 5.2.2 | `00 80 80 80 80 10`: refused at 14 | Write the integer in LEB128, in at most 5 \
-        bytes for 32 bits and 10 for 64.\n\
+        Or the table index of a `call_indirect` is not 0. | 5.2.2 | `00 80 80 80 80 10`: refused at 14 \
+        | Write the integer in LEB128, in at most 5 bytes for 32 bits and 10 for 64. For a call through \
+        another table, turn reference types off.\n\
     BadUtf8 | A name is not UTF-8. Its last byte decides. | 5.2.4 | `00 02 01 80`: refused at 12 | \
         Encode names in UTF-8.\n\
     BadByte | This byte is not allowed here. One of these must come: `60` for a function type, a \
-        value type, a block type, the element type `70`, a kind, a flag, or the `00` that ends some \
+        value type, a block type, the element type `70`, a kind, a flag, or a `00` of some \
         instructions. | 5.3, 5.4, 5.5 | `01 02 01 00`: refused at 12 | The module may use a later \
         feature, such as reference types, shared memories or several memories. Turn it off.\n\
     Float | The module uses a floating-point type or instruction, but the profile has none. | 5.3.1, \
         5.4 | `06 02 01 7D`: refused at 12 | The module may be valid. Use `--profile 3`, or \
         `--profile 4` for sign extension too.\n\
-    BadOpcode | No instruction of the profile begins with this byte. | 5.4 | `06 04 01 7F 00 06`: \
-        refused at 14 | For sign extension (`C0` to `C4`) use `--profile 2`, or `4` with floats. \
-        Turn other later features off.\n\
+    BadOpcode | No instruction of the profile begins with this byte. Or it follows `FC`, and no \
+        instruction of the profile has it there. | 5.4 | `06 04 01 7F 00 06`: refused at 14 | For sign \
+        extension (`C0` to `C4`) use `--profile 2`, or `4` with floats. `--features` adds some later \
+        instructions. Turn other later features off.\n\
     Index | An index is out of range: there is no such type, function, table, memory, global, local \
         or label. The initial value of a global may name imported globals only. | 3.1.1, 3.3, 3.4 | \
         `08 01 00`: refused at 11 | Declare the item, or correct the index. Memory instructions and \
