@@ -1,3 +1,4 @@
+pub mod FeatureLemmas
 pub mod LineLemmas
 pub mod PositionLemmas
 pub mod RunLemmas

@@ -1,6 +1,6 @@
 -- Lemmas about `clap`'s parse of the arguments, and about wrong values.
 use Rattle.std.proofs.Common.{◌≡◌, ◌∙◌, ℕ, inl, inr, refl, subst, sym, ap, codes, true, [], List, Option, None, Some}
-use Rattle.std.specs.Prelude.{◌≢◌, IfSome, IsSome, MatchOption, option_map, unwrap_or}
+use Rattle.std.specs.Prelude.{◌≢◌, Contains, IfSome, IsSome, MatchOption, option_map, unwrap_or}
 use Rattle.std.proofs.lemmas.Option.{IfSome_then}
 use Rattle.clap.specs.Words.{App, HasKind, HasMatchesOf, Text, IsAmong, Kinds, all_of, fault_of, first_of, first_value, found_of, is_simple, is_simple_and_free, matches_of}
 use Rattle.clap.specs.Values.{kind_of}
@@ -12,8 +12,9 @@ use Rattle.clap.proofs.WalkLemmas.{first_value-rows, raw_values-rows}
 use Rattle.wm_command.specs.declared.line.WrongWord.{WrongWord}
 use Rattle.wm_command.specs.declared.line.WrongWord.TheVariants as wrong
 use Rattle.wm_command.specs.declared.arguments.Action.TheVariants.{Build}
-use Rattle.wm_command.specs.Lines.{FilesFit, IsActionWord, IsLimit, IsMost, IsPolicy, IsProfile, IsWrong, NoneIsWrong, Stands, TakesMany, WritesModule, action_name, files_found, files_of, head_of, wmod, word_of}
+use Rattle.wm_command.specs.Lines.{FilesFit, IsActionWord, IsLimit, IsMost, IsPolicy, IsProfile, IsWrong, NamesFeatures, NoneIsWrong, Stands, TakesMany, WritesModule, action_name, files_found, files_of, head_of, wmod, word_of, words_in}
 use Rattle.wm_rules.specs.declared.policy.Policy.{Policy}
+use Rattle.wm_syntax.specs.declared.profile.Feature.{Feature}
 use Rattle.wm_syntax.specs.declared.profile.Profile.{Profile}
 use Rattle.wm_syntax.specs.Profiles.{one}
 
@@ -48,6 +49,7 @@ wrong_by_words : (word other : Text → Option Text) → ((id : Text) → word i
 wrong_by_words word other same files (wrong.Action text) h = (sym (same _) ∙ h.0, h.1)
 wrong_by_words word other same files (wrong.Topic text) h = (sym (same _) ∙ h.0, h.1, h.2)
 wrong_by_words word other same files (wrong.Profile text) h = (sym (same _) ∙ h.0, h.1)
+wrong_by_words word other same files (wrong.Feature text) h = (h.0, sym (same _) ∙ h.1, h.2, h.3)
 wrong_by_words word other same files (wrong.Limit text) h = (sym (same _) ∙ h.0, h.1)
 wrong_by_words word other same files (wrong.MaxFunctions text) h = (sym (same _) ∙ h.0, h.1)
 wrong_by_words word other same files (wrong.MaxLocals text) h = (sym (same _) ∙ h.0, h.1)
@@ -71,27 +73,33 @@ none_along word other same files others is none w h = none w (wrong_along other 
 abbrev NamesBuild : Option Text → Type 0
 NamesBuild said = IfSome said (λ text. text ≡ action_name Build)
 
+-- Each word of a value of `--features` names features.
+abbrev pub NamesAll : Text → Type 0
+NamesAll list = (text : Text) → Contains (words_in list) text → (features : List Feature) × NamesFeatures text features
+
 -- No value is wrong if each one is right.
 pub none_wrong : (word : Text → Option Text) (files : List Text) → IfSome (word (codes "ACTION")) IsActionWord
     → (word (codes "ACTION") ≡ Some (codes "help") → IfSome (head_of files) IsActionWord)
-    → ((p : Profile) × IsProfile (word (codes "profile")) p) → ((n : ℕ) × IsLimit (word (codes "limit")) n) → ((q : Policy) × IsPolicy word q)
+    → ((p : Profile) × IsProfile (word (codes "profile")) p) → IfSome (word (codes "features")) NamesAll → ((n : ℕ) × IsLimit (word (codes "limit")) n) → ((q : Policy) × IsPolicy word q)
     → (Stands (word (codes "old-words")) → IfSome (word (codes "ACTION")) (λ text. text ≡ action_name Build)) → FilesFit word files → NoneIsWrong word files
-none_wrong word files action topic profile limit policy flag fit (wrong.Action w) h = h.1 (subst (λ o. IfSome o IsActionWord) h.0 action)
-none_wrong word files action topic profile limit policy flag fit (wrong.Topic w) h = h.2 (subst (λ o. IfSome o IsActionWord) h.1 (topic h.0))
-none_wrong word files action topic profile limit policy flag fit (wrong.Profile w) h = h.1 profile.0 (subst (λ o. IsProfile o profile.0) h.0 profile.1)
-none_wrong word files action topic profile limit policy flag fit (wrong.Limit w) h = h.1 limit.0 (subst (λ o. IsLimit o limit.0) h.0 limit.1)
-none_wrong word files action topic profile limit policy flag fit (wrong.MaxFunctions w) h =
+none_wrong word files action topic profile features limit policy flag fit (wrong.Action w) h = h.1 (subst (λ o. IfSome o IsActionWord) h.0 action)
+none_wrong word files action topic profile features limit policy flag fit (wrong.Topic w) h = h.2 (subst (λ o. IfSome o IsActionWord) h.1 (topic h.0))
+none_wrong word files action topic profile features limit policy flag fit (wrong.Profile w) h = h.1 profile.0 (subst (λ o. IsProfile o profile.0) h.0 profile.1)
+none_wrong word files action topic profile features limit policy flag fit (wrong.Feature w) h =
+    let named = subst (λ o. IfSome o NamesAll) h.1 features w.now h.2 in h.3 named.0 named.1
+none_wrong word files action topic profile features limit policy flag fit (wrong.Limit w) h = h.1 limit.0 (subst (λ o. IsLimit o limit.0) h.0 limit.1)
+none_wrong word files action topic profile features limit policy flag fit (wrong.MaxFunctions w) h =
     h.1 policy.0.functions (subst (λ o. IsMost o policy.0.functions) h.0 policy.1.functions)
-none_wrong word files action topic profile limit policy flag fit (wrong.MaxLocals w) h =
+none_wrong word files action topic profile features limit policy flag fit (wrong.MaxLocals w) h =
     h.1 policy.0.locals (subst (λ o. IsMost o policy.0.locals) h.0 policy.1.locals)
-none_wrong word files action topic profile limit policy flag fit (wrong.MaxOpen w) h =
+none_wrong word files action topic profile features limit policy flag fit (wrong.MaxOpen w) h =
     h.1 policy.0.depth (subst (λ o. IsMost o policy.0.depth) h.0 policy.1.depth)
-none_wrong word files action topic profile limit policy flag fit (wrong.OldWords w) h = h.2 (subst NamesBuild h.1 (flag h.0))
-none_wrong word files action topic profile limit policy flag fit (wrong.Several w) h = h.1 (subst (λ o. IfSome o TakesMany) h.0 (fit.several h.2))
-none_wrong word files action topic profile limit policy flag fit (wrong.From w) h = h.1 (subst (λ o. IfSome o TakesMany) h.0 (fit.list h.2))
-none_wrong word files action topic profile limit policy flag fit (wrong.Beside w) h = let none = sym h.1 ∙ fit.beside h.0 in cc
-none_wrong word files action topic profile limit policy flag fit wrong.Null h = fit.null h.0 h.1
-none_wrong word files action topic profile limit policy flag fit (wrong.Output w) h = h.1 (subst (λ o. IfSome o WritesModule) h.0 (fit.output h.2))
+none_wrong word files action topic profile features limit policy flag fit (wrong.OldWords w) h = h.2 (subst NamesBuild h.1 (flag h.0))
+none_wrong word files action topic profile features limit policy flag fit (wrong.Several w) h = h.1 (subst (λ o. IfSome o TakesMany) h.0 (fit.several h.2))
+none_wrong word files action topic profile features limit policy flag fit (wrong.From w) h = h.1 (subst (λ o. IfSome o TakesMany) h.0 (fit.list h.2))
+none_wrong word files action topic profile features limit policy flag fit (wrong.Beside w) h = let none = sym h.1 ∙ fit.beside h.0 in cc
+none_wrong word files action topic profile features limit policy flag fit wrong.Null h = fit.null h.0 h.1
+none_wrong word files action topic profile features limit policy flag fit (wrong.Output w) h = h.1 (subst (λ o. IfSome o WritesModule) h.0 (fit.output h.2))
 
 -- A fault other than out of memory is one of the command's kinds.
 pub faulty : (kinds : Kinds) (e : Error) → HasKind kinds e → kind_of e ≢ kind.OutOfMemory → kinds ≢ []
@@ -117,3 +125,7 @@ default_limit text f said e is = (4294967295, subst (λ o. IsLimit o 4294967295)
 -- an absent value of `--profile`
 pub default_profile : {S : Type 0} (text : Option S) (f : S → Text) (said : Option Text) → option_map f text ≡ said → text ≡ None → (p : Profile) × IsProfile said p
 default_profile text f said e is = (one, subst (λ o. IsProfile o one) (ap (option_map f) (sym is) ∙ e) refl)
+
+-- Each word of the value of `--features` names features.
+pub said_names : {S : Type 0} (text : Option S) (f : S → Text) (said : Option Text) (s : S) → option_map f text ≡ said → text ≡ Some s → NamesAll (f s) → IfSome said NamesAll
+said_names text f said s e is all = subst (λ o. IfSome o NamesAll) (ap (option_map f) (sym is) ∙ e) all

@@ -148,7 +148,7 @@ pub list_unread : (Right : List ℕ → Status → Type 0) (end : ℕ) (old : Op
 list_unread Right end None failure kind = tt
 list_unread Right end (Some bytes) failure kind = ([], names_in end bytes, [], refl, tt, inr (failure, kind, greater_first failure kind))
 
--- So does a list that is not opened.
+-- The same holds of a list that is not opened.
 pub list_closed : (Right : List ℕ → Status → Type 0) (end : ℕ) (path : Option (List ℕ)) (held : List ℕ → Option (List ℕ)) (failure : Status) → (failure ≡ Io) ⊎ (failure ≡ Memory)
     → IfSome path (λ p. IfSome (held p) (λ bytes. IsOfEach Right (names_in end bytes) failure))
 list_closed Right end None held failure kind = tt

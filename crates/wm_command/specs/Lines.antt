@@ -1,9 +1,10 @@
 -- The command line `wmod ACTION [OPTIONS] [FILE]...`, as a simple command of `clap`. With `explain` FILE is a NAME, and
 -- with `help` it is a word for ACTION. FILE has a list of values. Each other argument has one value, or none if it is
 -- absent.
-use Rattle.std.specs.Prelude.{◌≡◌, ◌≢◌, ◌<◌, ◌≤◌, ◌^◌, ◌⊎◌, ◌↔◌, ℕ, true, List, [], ◌∷◌}
-use Rattle.std.specs.Prelude.{Option, Some, None, IfSome, IsSome, IsTrue, ⊤, codes, length, map}
+use Rattle.std.specs.Prelude.{◌≡◌, ◌≢◌, ◌<◌, ◌≤◌, ◌^◌, ◌⊎◌, ◌↔◌, ◌==◌, ℕ, true, List, [], ◌∷◌}
+use Rattle.std.specs.Prelude.{Option, Some, None, IfSome, IsSome, IsTrue, ⊤, codes, length, map, Contains}
 use Rattle.std.specs.Prelude.{if◌then◌else◌, option_map, unwrap_or}
+use Rattle.std.specs.List.{slice_split}
 use Rattle.std.specs.Str.{bytes_eq}
 use Rattle.std.specs.Str.Parse.{IsNumeral, digits_value}
 use Rattle.clap.specs.Words.{App, Rule, Text, HasKind, all_of, fault_of, first_of, matches_of, new_app, new_rule}
@@ -11,8 +12,10 @@ use Rattle.clap.specs.Words.{matched_of, raw_values, with_rule}
 use Rattle.clap.specs.Simple.{on_top}
 use Rattle.clap.specs.declared.parser.matches.Found.{Found}
 use Rattle.clap.specs.declared.builder.action.ArgAction.TheVariants.{Append, Set, SetTrue}
+use Rattle.wm_syntax.specs.declared.profile.Feature.{Feature}
+use Rattle.wm_syntax.specs.declared.profile.Feature.TheVariants.{Copies, LongIndex, Saturation, SignExtension}
 use Rattle.wm_syntax.specs.declared.profile.Profile.{Profile}
-use Rattle.wm_syntax.specs.Profiles.{four, one, three, two}
+use Rattle.wm_syntax.specs.Profiles.{AddsFeature, four, one, three, two}
 use Rattle.wm_rules.specs.declared.policy.Policy.{Policy}
 use Rattle.wm_read.specs.declared.spellings.Spellings.{Spellings}
 use Rattle.wm_read.specs.declared.spellings.Spellings.TheVariants.{Standard, Older}
@@ -59,10 +62,11 @@ abbrev pub with_rules : App → List Rule → App
 with_rules a [] = a
 with_rules a (rule ∷ rules) = with_rules (with_rule a rule) rules
 
--- The options on profiles and limits, and `--old-words`.
+-- The options on profiles, features and limits, and `--old-words`.
 abbrev pub module_rules : List Rule
 module_rules =
     option_rule (codes "profile")
+    ∷ option_rule (codes "features")
     ∷ option_rule (codes "limit")
     ∷ option_rule (codes "max-functions")
     ∷ option_rule (codes "max-locals")
@@ -92,9 +96,13 @@ action_name Canon = codes "canon"
 action_name Show = codes "show"
 action_name Build = codes "build"
 
+-- The word is the name of an action.
+abbrev pub NamesAction : Text → Type 0
+NamesAction text = (a : Action) × (text ≡ action_name a)
+
 -- ACTION may be this word: it names an action, or is `explain` or `help`.
 abbrev pub IsActionWord : Text → Type 0
-IsActionWord text = ((a : Action) × (text ≡ action_name a)) ⊎ (text ≡ codes "explain") ⊎ (text ≡ codes "help")
+IsActionWord text = NamesAction text ⊎ (text ≡ codes "explain") ⊎ (text ≡ codes "help")
 
 -- An action with this word reads several files, or a list of names.
 abbrev pub TakesMany : Text → Type 0
@@ -107,12 +115,45 @@ WritesModule text = (text ≡ action_name Canon) ⊎ (text ≡ action_name Show)
 -- This value of `--profile` names this profile. Any other value names none.
 abbrev pub NamesProfile : Text → Profile → Type 0
 NamesProfile text p = ((text ≡ codes "1") × (p ≡ one)) ⊎ ((text ≡ codes "2") × (p ≡ two))
-    ⊎ ((text ≡ codes "3") × (p ≡ three)) ⊎ ((text ≡ codes "4") × (p ≡ four))
+    ⊎ ((text ≡ codes "3") × (p ≡ three)) ⊎ ((text ≡ codes "1.0") × (p ≡ three))
+    ⊎ ((text ≡ codes "4") × (p ≡ four))
 
 -- A value of `--profile` names this profile. An absent one names `one`.
 abbrev pub IsProfile : Option Text → Profile → Type 0
 IsProfile None p = p ≡ one
 IsProfile (Some text) p = NamesProfile text p
+
+-- This word of `--features` names these features. Any other word names none. The words are those of LLVM.
+abbrev pub NamesFeatures : Text → List Feature → Type 0
+NamesFeatures text features = ((text ≡ codes "sign-ext") × (features ≡ SignExtension ∷ []))
+    ⊎ ((text ≡ codes "call-indirect-overlong") × (features ≡ LongIndex ∷ []))
+    ⊎ ((text ≡ codes "nontrapping-fptoint") × (features ≡ Saturation ∷ []))
+    ⊎ ((text ≡ codes "bulk-memory-opt") × (features ≡ Copies ∷ []))
+
+-- The profile `p` is `base` with these features added.
+abbrev pub AddsFeatures : Profile → List Feature → Profile → Type 0
+AddsFeatures base [] p = p ≡ base
+AddsFeatures base (feature ∷ features) p = (q : Profile) × AddsFeature base feature q × AddsFeatures q features p
+
+-- Each of these words names features, and the profile `p` is `base` with all of them added.
+abbrev pub AddsWords : Profile → List Text → Profile → Type 0
+AddsWords base [] p = p ≡ base
+AddsWords base (word ∷ words) p = (features : List Feature) × (q : Profile) × NamesFeatures word features
+    × AddsFeatures base features q × AddsWords q words p
+
+-- The words of a list, with commas between them. The empty list has one word, which is empty.
+abbrev pub words_in : Text → List Text
+words_in = slice_split (λ b. b == 44)
+
+-- A value of `--features` makes the profile `p` of the profile `base`. An absent one adds nothing.
+abbrev pub HasFeatures : Option Text → Profile → Profile → Type 0
+HasFeatures None base p = p ≡ base
+HasFeatures (Some list) base p = AddsWords base (words_in list) p
+
+-- The values of `--profile` and `--features` give this profile.
+abbrev pub GivesProfile : (Text → Option Text) → Profile → Type 0
+GivesProfile word p = (base : Profile) × IsProfile (word (codes "profile")) base
+    × HasFeatures (word (codes "features")) base p
 
 -- A value of `--limit` is this number in decimal digits, and the number is at most 2^62. An absent one is
 -- 2^32 - 1.
@@ -175,7 +216,7 @@ MayWrite output action = IsSome output → WritesModule (action_name action)
 -- The values of the arguments describe this line. `files` has the values of FILE.
 pub record Says (word : Text → Option Text) (files : List Text) (l : Line) : Type 0 where
   pub action : word (codes "ACTION") ≡ Some (action_name l.action)
-  pub profile : IsProfile (word (codes "profile")) l.profile
+  pub profile : GivesProfile word l.profile
   pub limit : IsLimit (word (codes "limit")) l.limit
   pub policy : IsPolicy word l.policy
   pub spellings : IsSpellings (word (codes "old-words")) l.action l.spellings
@@ -204,12 +245,15 @@ list_of (Some text) = text ∷ []
 
 -- The values ask for this. `explain` asks for the meaning of FILE as a NAME. `help` asks for the help, with or
 -- without a word for ACTION as FILE. Both ignore the values of the options, but neither takes `--from` or `--output`.
+-- An action with the value `help` of `--features` asks for the words of that option, and ignores all other values.
 abbrev pub Asks : (Text → Option Text) → List Text → Request → Type 0
 Asks word files (request.Run l) = Says word files l
 Asks word files (request.Explain name) = (word (codes "ACTION") ≡ Some (codes "explain"))
     × (files ≡ list_of (option_map (λ s. s.now) name)) × NamesNoOther word
 Asks word files request.Help = (word (codes "ACTION") ≡ Some (codes "help"))
     × ((files ≡ []) ⊎ ((topic : Text) × (files ≡ topic ∷ []) × IsActionWord topic)) × NamesNoOther word
+Asks word files request.Features = ((text : Text) × (word (codes "ACTION") ≡ Some text) × NamesAction text)
+    × (word (codes "features") ≡ Some (codes "help"))
 
 -- The values ask for nothing.
 abbrev pub AsksNothing : (Text → Option Text) → List Text → Type 0
@@ -220,7 +264,8 @@ abbrev pub head_of : List Text → Option Text
 head_of [] = None
 head_of (text ∷ texts) = Some text
 
--- The argument has this value, and the value is wrong. These values are wrong because of another argument:
+-- The argument has this value, and the value is wrong. `Feature` has a word of the value of `--features`, which names no
+-- feature. These values are wrong because of another argument:
 -- `Topic`: FILE, whose first value is no word for ACTION, where ACTION is `help`.
 -- `OldWords`: ACTION, which is not `build`, where `--old-words` is present.
 -- `Several`: ACTION, which takes one FILE at most, where FILE has several values.
@@ -234,6 +279,8 @@ IsWrong word files (wrong.Topic w) = (word (codes "ACTION") ≡ Some (codes "hel
     × (head_of files ≡ Some w.now) × (IsActionWord w.now → ⊥)
 IsWrong word files (wrong.Profile w) = (word (codes "profile") ≡ Some w.now)
     × ((p : Profile) → NamesProfile w.now p → ⊥)
+IsWrong word files (wrong.Feature w) = (list : Text) × (word (codes "features") ≡ Some list)
+    × Contains (words_in list) w.now × ((features : List Feature) → NamesFeatures w.now features → ⊥)
 IsWrong word files (wrong.Limit w) = (word (codes "limit") ≡ Some w.now)
     × ((n : ℕ) → IsLimit (Some w.now) n → ⊥)
 IsWrong word files (wrong.MaxFunctions w) = (word (codes "max-functions") ≡ Some w.now)

@@ -57,8 +57,8 @@ AreRight Right (name ∷ names) (status ∷ statuses) = Right name status × Are
 AreRight Right _ _ = ⊥
 
 -- The status of a run over the files of these names. Either each file has its status, and the greatest is returned. Or
--- the run ended early with `Io` or `Memory`, because standard output or the list of names failed. Only the files before
--- have a status then, and the greatest of these and of the failure is returned.
+-- the run ended early with `Io` or `Memory`. Only the files before have a status then, and the greatest of these and of
+-- the failure is returned. Why it ended is not said here: standard output or the list of names failed.
 abbrev pub IsOfEach : (List ℕ → Status → Type 0) → List (List ℕ) → Status → Type 0
 IsOfEach Right names result = (done rest : List (List ℕ)) × (statuses : List Status) × (names ≡ done ++ rest)
     × AreRight Right done statuses

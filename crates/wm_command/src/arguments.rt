@@ -90,6 +90,8 @@ pub enum Request<'a> {
     Explain(Option<&'a str>),
     /// The help.
     Help,
+    /// The words of `--features`.
+    Features,
 }
 
 /// Why the arguments ask for nothing.
@@ -97,8 +99,8 @@ pub enum Request<'a> {
 pub enum LineFault {
     /// The fault of `clap`, with its text. A request for help or for the version is one too.
     Parser(clap::Error),
-    /// An unknown action or profile, or a number that is malformed or out of range. Also a file or an option that the
-    /// action does not take, and a NAME of `explain` that is missing or unknown.
+    /// An unknown action, profile or feature, or a number that is malformed or out of range. Also a file or an option that
+    /// the action does not take, and a NAME of `explain` that is missing or unknown.
     Words,
     /// Memory was refused.
     Memory,

@@ -5,7 +5,8 @@ ghost use Rattle.wm_command.specs.Codes.{fault_code};
 ghost use Rattle.wm_command.specs.declared.status.Status.{Status};
 
 use crate::arguments::LineFault;
-use crate::line::wrong_word;
+use crate::features::{NoFeature, nearest};
+use crate::line::{WrongWord, wrong_word};
 use crate::status::Status;
 use clap::error::ErrorKind;
 use std::fmt::{Display, Write};
@@ -154,6 +155,20 @@ fn complain_of_parse<R: Eprint + AllocGlobal>(rt: &R, words: &[String], error: &
     }
 }
 
+/// Reports a word of `--features` that names no feature, with the nearest one that does. Reports nothing if memory is
+/// refused. It has no contract, as `complain`.
+fn complain_of_feature<R: Eprint + AllocGlobal>(rt: &R, word: &str) {
+    if let Ok(nearest) = nearest(rt.alloc(), word) {
+        complain(
+            rt,
+            &NoFeature {
+                word,
+                nearest: Some(nearest),
+            },
+        );
+    }
+}
+
 /// Reports why these arguments ask for nothing. Prints help or the version if an option asks for it. Returns `Ok(Io)`
 /// if standard output fails for help or the version, and the fault otherwise.
 pub fn explain_fault<R: Print + Eprint + AllocGlobal>(
@@ -177,8 +192,10 @@ pub fn explain_fault<R: Print + Eprint + AllocGlobal>(
         LineFault::Parser(_) | LineFault::Memory => complain(rt, &LineFault::Memory),
         LineFault::Words => {
             complain(rt, &fault);
-            if let Ok(Some(word)) = wrong_word(rt.alloc(), words) {
-                complain(rt, &word);
+            match wrong_word(rt.alloc(), words) {
+                Ok(Some(WrongWord::Feature(word))) => complain_of_feature(rt, word),
+                Ok(Some(word)) => complain(rt, &word),
+                _ => {}
             }
         }
     }

@@ -211,13 +211,11 @@ impl fmt::Display for Token {
 }
 
 /// Returns what must come at this offset of a text that is refused there as `Expected`. Returns `None` after the first
-/// two tokens, where it is not known.
+/// two tokens, where it is not known. It reads only what is before the offset, since the token there may be long.
 fn start_at(text: &[u8], at: usize) -> Option<Start> {
-    let left = text.len().checked_sub(at)?;
-    let first = skip_space(text);
-    match first {
-        _ if first.len() == left => Some(Start::Parenthesis),
-        [b'(', inner @ ..] if skip_space(inner).len() == left => Some(Start::Module),
+    match skip_space(text.get(..at)?) {
+        [] => Some(Start::Parenthesis),
+        [b'(', inner @ ..] if skip_space(inner).is_empty() => Some(Start::Module),
         _ => None,
     }
 }

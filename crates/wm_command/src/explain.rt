@@ -1,4 +1,5 @@
-//! `wmod explain NAME` writes what the NAME of a refusal means, and `wmod help` writes the help.
+//! `wmod explain NAME` writes what the NAME of a refusal means, `wmod help` writes the help, and `--features help` writes the
+//! words of that option.
 
 ghost use Rattle.std.specs.Prelude.{◌≡◌, ◌<◌, ◌⊎◌, ℕ, List, [], Err, IfErr, IfOk, IfSome, None, false, length};
 ghost use Rattle.wm_command.specs.Answers.{IsAnswered};
@@ -8,6 +9,7 @@ ghost use Rattle.wm_command.specs.declared.arguments.LineFault.TheVariants.{Memo
 use crate::answer::answer;
 use crate::arguments::LineFault;
 use crate::complaint::{Escaped, complain, complain_of_output};
+use crate::features::listed;
 use crate::line::help_text;
 use crate::status::Status;
 use crate::witness::Witness;
@@ -72,15 +74,35 @@ pub fn help<R: Print + Eprint + AllocGlobal>(rt: &R) -> Result<Status, LineFault
     ensures ok { IfOk result (λ status. (status ≡ Status.Done) ⊎ (status ≡ Status.Io)) }
     ensures fault { IfErr result (λ e. e ≡ Memory) }
 {
-    let Ok(text) = help_text(rt.alloc()) else {
-        return out_of_memory(rt);
-    };
+    match help_text(rt.alloc()) {
+        Ok(text) => Ok(print_all(rt, text.as_str())),
+        Err(_) => out_of_memory(rt),
+    }
+}
+
+/// Writes the words of `--features` to standard output, with what each admits. Fails with `Memory` if memory is refused.
+/// Returns `Ok(Io)` if standard output fails. Both are reported on standard error. No contract of std states what
+/// standard output got.
+pub fn features<R: Print + Eprint + AllocGlobal>(rt: &R) -> Result<Status, LineFault>
+    ensures ok { IfOk result (λ status. (status ≡ Status.Done) ⊎ (status ≡ Status.Io)) }
+    ensures fault { IfErr result (λ e. e ≡ Memory) }
+{
+    match listed(rt.alloc()) {
+        Ok(text) => Ok(print_all(rt, text.as_str())),
+        Err(_) => out_of_memory(rt),
+    }
+}
+
+/// Writes a text to standard output. Returns `Io` if that fails, and reports it on standard error.
+fn print_all<R: Print + Eprint>(rt: &R, text: &str) -> Status
+    ensures { (result ≡ Status.Done) ⊎ (result ≡ Status.Io) }
+{
     let mut dest = OutputOf::new(Witness::new(io::writer(rt)));
     let status = answer(&mut dest, text.as_bytes(), Status::Done);
     if status == Status::Io {
         complain_of_output(rt, dest.into_inner().error());
     }
-    Ok(status)
+    status
 }
 
 /// Writes what a NAME means. Fails with `Words` if no refusal has it, and with `Memory` if memory is refused. Both

@@ -10,18 +10,35 @@ use wm_syntax::why::Why;
 pub const OF_FEATURES: &str = "\
     Float | any | any | any | a floating-point type or instruction | floats | use --profile 3, or 4 \
         with sign extension\n\
-    BadOpcode | any | opcode | c0 to c4 | a sign-extension instruction | sign-ext | use --profile 2, \
-        or 4 with floats, or compile with -mno-sign-ext\n\
+    BadOpcode | any | opcode | c0 to c4 | a sign-extension instruction | sign-ext | use --features \
+        sign-ext, or compile with -mno-sign-ext\n\
     BadOpcode | any | opcode | fc | a saturating conversion, or an instruction on a whole memory or \
-        table | nontrapping-fptoint, bulk-memory | compile with -mcpu=mvp\n\
+        table | nontrapping-fptoint, bulk-memory | use --features nontrapping-fptoint,bulk-memory-opt, \
+        or compile with -mcpu=mvp\n\
+    BadOpcode | any | opcode number | 00 to 07 | a saturating conversion | nontrapping-fptoint | use --features \
+        nontrapping-fptoint, or compile with -mno-nontrapping-fptoint\n\
+    BadOpcode | any | opcode number | 08 to 09 | memory.init or data.drop | bulk-memory | compile with \
+        -mno-bulk-memory\n\
+    BadOpcode | any | opcode number | 0a to 0b | memory.copy or memory.fill | bulk-memory-opt | use --features \
+        bulk-memory-opt, or compile with -mcpu=mvp\n\
+    BadOpcode | any | opcode number | 0c to 0e | table.init, elem.drop or table.copy | bulk-memory | compile with \
+        -mcpu=mvp\n\
+    BadOpcode | any | opcode number | 0f to 11 | table.grow, table.size or table.fill | reference-types | compile with \
+        -mno-reference-types\n\
     SectionId | any | any | 0c | a data count section | bulk-memory | compile with -mno-bulk-memory\n\
-    Index | data | number | 01 to 02 | no such index; as the first number of a segment, a later form \
-        | bulk-memory | compile with -mno-bulk-memory\n\
-    Index | element | number | 01 to 07 | no such index; as the first number of a segment, a later \
+    Index | data | number | 01 to 02 | no such index; if it is the first number of a segment, a later \
+        form | bulk-memory | compile with -mno-bulk-memory\n\
+    Index | element | number | 01 to 07 | no such index; if it is the first number of a segment, a later \
         form | bulk-memory, reference-types | compile with -mcpu=mvp\n\
-    BadByte | code | table byte | 80 to ff | a table index of more than one byte | reference-types | \
-        compile with -mcpu=mvp\n\
+    BadByte | code | table byte | 80 | a table index of more than one byte | \
+        call-indirect-overlong | use --features call-indirect-overlong, or compile with -mcpu=mvp\n\
     BadByte | code | table byte | 01 to 7f | a table other than the first | reference-types | \
+        compile with -mno-reference-types\n\
+    BadByte | code | table byte | 81 to ff | a table other than the first | reference-types | \
+        compile with -mno-reference-types\n\
+    BadNumber | code | table byte | 01 to 7f | a table other than the first | reference-types | \
+        compile with -mno-reference-types\n\
+    BadNumber | code | table byte | 81 to ff | a table other than the first | reference-types | \
         compile with -mno-reference-types\n\
     BadOpcode | any | opcode | d0 to d2 | an instruction on references | reference-types | compile \
         with -mno-reference-types\n\
@@ -44,7 +61,9 @@ pub const OF_FEATURES: &str = "\
     BadOpcode | any | opcode | fd | a vector instruction | simd128 | compile with -mno-simd128\n\
     BadByte | any | value type | 7b | the vector type v128 | simd128 | compile with -mno-simd128\n\
     BadOpcode | any | opcode | fe | an atomic instruction | atomics | compile without -pthread\n\
-    BadByte | any | limits flag | 02 to 03 | a shared memory | atomics | compile without -pthread\n\
+    BadByte | memory | limits flag | 02 to 03 | a shared memory | atomics | compile without -pthread\n\
+    BadByte | import | limits flag | 02 to 03 | a shared memory, or a flag that no table has | atomics | \
+        compile without -pthread\n\
     BadOpcode | any | opcode | 12 to 13 | a tail call | tail-call | compile with -mno-tail-call\n\
     BadOpcode | any | opcode | 06 to 0a | an instruction on exceptions | exception-handling | \
         compile without -fwasm-exceptions\n\
@@ -211,6 +230,7 @@ fn awaited_name(awaits: Awaits) -> &'static str {
         Awaits::ElementType => "element type",
         Awaits::Mutability => "mutability",
         Awaits::Opcode => "opcode",
+        Awaits::OpcodeNumber => "opcode number",
         Awaits::TableByte => "table byte",
         Awaits::MemoryByte => "memory byte",
         Awaits::Kind => "kind",

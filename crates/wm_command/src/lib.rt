@@ -9,6 +9,7 @@ pub mod complaint;
 pub mod detail;
 pub mod execute;
 pub mod explain;
+mod features;
 mod hints;
 pub mod laws;
 pub mod line;

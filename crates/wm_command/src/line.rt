@@ -2,13 +2,14 @@
 
 ghost use Rattle.std.specs.Prelude.{ℕ, ◌≡◌, ◌≢◌, ◌<◌, ◌≤◌, ◌^◌, ◌⊎◌, ◌↔◌, [], Option, Some, false, codes, map};
 ghost use Rattle.std.specs.Prelude.{option_map, IfOk, IfErr, IfSome, IsSome, IsTrue, None, SomeIff, MatchOption};
-ghost use Rattle.std.specs.Prelude.{length};
+ghost use Rattle.std.specs.Prelude.{Contains, List, length};
 ghost use Rattle.std.specs.Str.Parse.{IsNumeral, digits_value};
 ghost use Rattle.clap.specs.Words.{app_of, fault_of, first_value, found_of, rule_of};
 ghost use Rattle.wm_command.specs.declared.arguments.Action.TheVariants.{Build};
 ghost use Rattle.wm_command.specs.declared.arguments.LineFault.TheVariants.{Memory, Words};
-ghost use Rattle.wm_command.specs.Lines.{Asks, AsksNothing, FilesFit, GivesInputs, IsActionWord, IsEnding, IsFaultOf, IsLimit};
-ghost use Rattle.wm_command.specs.Lines.{IsMost, IsPolicy, IsProfile, IsSpellings, IsWrong, NamesNoOther, NamesProfile};
+ghost use Rattle.wm_command.specs.Lines.{Asks, AsksNothing, FilesFit, GivesInputs, GivesProfile, IsActionWord, IsEnding, IsFaultOf};
+ghost use Rattle.wm_command.specs.Lines.{IsLimit, IsMost, IsPolicy, IsProfile, IsSpellings, IsWrong, NamesAction, NamesFeatures};
+ghost use Rattle.wm_command.specs.Lines.{NamesNoOther, NamesProfile, words_in};
 ghost use Rattle.wm_command.specs.Lines.{NoneIsWrong, Says, SaysNone, Stands, TakesMany, WritesModule};
 ghost use Rattle.wm_command.specs.Lines.{action_name, action_rule, file_rule, file_rules, files_found, files_of, flag_rule};
 ghost use Rattle.wm_command.specs.Lines.{head_of, module_rules, option_rule};
@@ -16,11 +17,13 @@ ghost use Rattle.wm_command.specs.Lines.{versioned, with_letter, with_rules, wmo
 ghost use Rattle.wm_command.specs.declared.arguments.Inputs.{Inputs};
 ghost use Rattle.wm_read.specs.declared.spellings.Spellings.{Spellings};
 ghost use Rattle.wm_rules.specs.declared.policy.Policy.{Policy};
+ghost use Rattle.wm_syntax.specs.declared.profile.Feature.{Feature as AFeature};
 ghost use Rattle.wm_syntax.specs.declared.profile.Profile.{Profile};
 
 use crate::arguments::{Action, Ending, Inputs, Line, LineFault, Request};
 use crate::complaint::Escaped;
 use crate::explain::Wrong;
+use crate::features::{NoFeature, with_features, with_words};
 use clap::error::ErrorKind;
 use clap::{Arg, ArgAction, ArgMatches, Command};
 use std::alloc::{AllocError, Global};
@@ -105,14 +108,14 @@ fn writes_module(text: &str) -> bool
     }
 }
 
-/// Returns the profile with this number, `1` to `4`, or `None` for any other text.
+/// Returns the profile with this name: `1` to `4`, or `1.0` for `3`. Returns `None` for any other text.
 fn profile_of(text: &str) -> Option<Profile>
     ensures { MatchOption result ((p : Profile) → NamesProfile text.now p → ⊥) (NamesProfile text.now) }
 {
     match text {
         "1" => Some(Profile::ONE),
         "2" => Some(Profile::TWO),
-        "3" => Some(Profile::THREE),
+        "3" | "1.0" => Some(Profile::THREE),
         "4" => Some(Profile::FOUR),
         _ => None,
     }
@@ -140,6 +143,7 @@ const ANSWERS: &str =
     Examples:\n  \
     wmod check module.wasm\n  \
     wmod check --profile 3 with_floats.wasm\n  \
+    wmod check --profile 3 --features sign-ext later.wasm\n  \
     wmod stats --limit 1000000 < module.wasm\n  \
     wmod check first.wasm second.wasm\n  \
     find modules -name '*.wasm' -print0 | wmod check --from - --null\n  \
@@ -152,7 +156,10 @@ const ANSWERS: &str =
 
 // the help text of each option
 const PROFILE: &str =
-    "1, 2, 3 or 4: floats under 3 and 4, sign extension under 2 and 4 [default: 1]";
+    "1, 2, 3 or 4: floats under 3 and 4, sign extension under 2 and 4; 1.0 is 3 [default: 1]";
+
+const FEATURES: &str =
+    "Words with commas between them: features to add to the profile; `help` lists all";
 
 const LIMIT: &str = "The maximum length of the input in bytes [default: 4294967295]";
 
@@ -234,12 +241,13 @@ fn bare_command<'a>(alloc: Global) -> Command<'a>
         .after_help(ANSWERS)
 }
 
-/// Adds the options on profiles and limits to the command, and `--old-words`.
+/// Adds the options on profiles, features and limits to the command, and `--old-words`.
 fn with_rules_of_modules<'a>(alloc: Global, command: Command<'a>) -> Result<Command<'a>, AllocError>
     ensures { IfOk result (λ c. app_of c ≡ with_rules (app_of command.entry) module_rules) }
 {
     command
         .arg(option_arg(alloc, "profile", "N", PROFILE))?
+        .arg(option_arg(alloc, "features", "LIST", FEATURES))?
         .arg(option_arg(alloc, "limit", "N", LIMIT))?
         .arg(option_arg(alloc, "max-functions", "N", MAX_FUNCTIONS))?
         .arg(option_arg(alloc, "max-locals", "N", MAX_LOCALS))?
@@ -279,6 +287,16 @@ fn profile_by(word: Option<&str>) -> Option<Profile>
         None => Some(Profile::ONE),
         Some(text) => profile_of(text),
     }
+}
+
+/// Returns the profile that `--profile` and `--features` give, or `None` if one of their values is wrong.
+fn profile_in(matches: &ArgMatches<'_>) -> Option<Profile>
+    ensures { let word = first_value (found_of matches.now) in
+        MatchOption result ((p : Profile) → GivesProfile word p
+        → ⊥) (GivesProfile word) }
+{
+    let base = profile_by(matches.get_str("profile"))?;
+    with_features(base, matches.get_str("features"))
 }
 
 /// Returns the limit of the input in bytes: 2^32 - 1 if `--limit` is absent, and `None` if its value is wrong.
@@ -406,7 +424,7 @@ fn read_line<'a>(alloc: Global, matches: &ArgMatches<'a>) -> Result<Line<'a>, Li
     let Some(action) = action_of(word) else {
         return Err(LineFault::Words);
     };
-    let Some(profile) = profile_by(matches.get_str("profile")) else {
+    let Some(profile) = profile_in(matches) else {
         return Err(LineFault::Words);
     };
     let Some(limit) = limit_by(matches.get_str("limit")) else {
@@ -473,6 +491,18 @@ fn read_topic<'a>(matches: &ArgMatches<'a>) -> Result<Request<'a>, LineFault>
     }
 }
 
+/// Whether an action has the value `help` of `--features`.
+fn asks_for_features(matches: &ArgMatches<'_>) -> bool
+    ensures { let word = first_value (found_of matches.now) in
+        IsTrue result ↔ (((text : List ℕ) × (word (codes "ACTION") ≡ Some text) × NamesAction text)
+        × (word (codes "features") ≡ Some (codes "help"))) }
+{
+    match (matches.get_str("ACTION"), matches.get_str("features")) {
+        (Some(action), Some("help")) => action_of(action).is_some(),
+        _ => false,
+    }
+}
+
 /// Returns what the arguments ask for. Fails with `Words` if they ask for nothing, and with `Memory` if memory is
 /// refused.
 fn read<'a>(alloc: Global, matches: &ArgMatches<'a>) -> Result<Request<'a>, LineFault>
@@ -484,6 +514,7 @@ fn read<'a>(alloc: Global, matches: &ArgMatches<'a>) -> Result<Request<'a>, Line
     match matches.get_str("ACTION") {
         Some("explain") => read_name(matches),
         Some("help") => read_topic(matches),
+        _ if asks_for_features(matches) => Ok(Request::Features),
         _ => match read_line(alloc, matches) {
             Ok(line) => Ok(Request::Run(line)),
             Err(fault) => Err(fault),
@@ -520,6 +551,8 @@ pub enum WrongWord<'a> {
     /// The word after `help`, if it is no word for ACTION.
     Topic(&'a str),
     Profile(&'a str),
+    /// A word of the value of `--features` that names no feature.
+    Feature(&'a str),
     Limit(&'a str),
     MaxFunctions(&'a str),
     MaxLocals(&'a str),
@@ -570,8 +603,16 @@ impl fmt::Display for WrongWord<'_> {
                 Escaped(word)
             ),
             WrongWord::Profile(word) => {
-                write!(f, "'{}' is no profile: 1, 2, 3, 4", Escaped(word))
+                write!(f, "'{}' is no profile: 1, 2, 3 or 1.0, 4", Escaped(word))
             }
+            WrongWord::Feature(word) => write!(
+                f,
+                "{}",
+                NoFeature {
+                    word,
+                    nearest: None
+                }
+            ),
             WrongWord::Limit(word) => write!(
                 f,
                 "'{}' is no limit: decimal digits, at most {MOST_LIMIT}",
@@ -648,6 +689,21 @@ fn no_profile<'a>(matches: &ArgMatches<'a>) -> Option<&'a str>
             Some(_) => None,
             None => Some(word),
         },
+    }
+}
+
+/// Returns the first word of the value of `--features` that names no feature.
+fn no_feature<'a>(matches: &ArgMatches<'a>) -> Option<&'a str>
+    ensures { let said = first_value (found_of matches.now) (codes "features") in
+        MatchOption result (IfSome said (λ list. (word : List ℕ) → Contains (words_in list) word
+        → (features : List AFeature) × NamesFeatures word features))
+        (λ text. (list : List ℕ) × (said ≡ Some list) × Contains (words_in list) text.now
+        × ((features : List AFeature) → NamesFeatures text.now features → ⊥)) }
+{
+    let list = matches.get_str("features")?;
+    match with_words(Profile::ONE, list) {
+        Ok(_) => None,
+        Err(word) => Some(word),
     }
 }
 
@@ -804,8 +860,9 @@ fn wrong_in_policy<'a>(matches: &ArgMatches<'a>) -> Option<WrongWord<'a>>
     None
 }
 
-/// Returns the first wrong value, in the order ACTION, the word after `help`, `--profile`, `--limit`, `--max-functions`,
-/// `--max-locals`, `--max-open`, `--old-words`, and then those of files. Returns `None` if no value is wrong.
+/// Returns the first wrong value, in the order ACTION, the word after `help`, `--profile`, `--features`, `--limit`,
+/// `--max-functions`, `--max-locals`, `--max-open`, `--old-words`, and then those of files. Returns `None` if no value is
+/// wrong.
 fn wrong_in<'a>(matches: &ArgMatches<'a>) -> Option<WrongWord<'a>>
     ensures { let word = first_value (found_of matches.now) in let files = files_found (found_of matches.now) in
         MatchOption result (NoneIsWrong word files) (IsWrong word files) }
@@ -818,6 +875,9 @@ fn wrong_in<'a>(matches: &ArgMatches<'a>) -> Option<WrongWord<'a>>
     }
     if let Some(word) = no_profile(matches) {
         return Some(WrongWord::Profile(word));
+    }
+    if let Some(word) = no_feature(matches) {
+        return Some(WrongWord::Feature(word));
     }
     if let Some(word) = no_limit(matches) {
         return Some(WrongWord::Limit(word));

@@ -190,7 +190,12 @@ fn follow_named<R: Print + Eprint + AllocGlobal, I: Read + Drop>(
     }
     match (status, source.into_inner().error()) {
         (Status::Io, Some(error)) => complain_of(rt, &status, name_for_people(name), error),
-        (Status::Memory | Status::Io, _) => complain_about(rt, &status, name, "no answer"),
+        (Status::Memory | Status::Io, _) => complain_about(
+            rt,
+            &status,
+            name_for_people(name),
+            "no answer",
+        ),
         (Status::Done | Status::Refused, _) => {
             complain_detail(rt, line, name_for_people(name), &ended);
         }

@@ -70,8 +70,8 @@ fn make_beside<R: Files + Eprint + AllocGlobal>(
     Err(Status::Io)
 }
 
-/// Whether a file of this name may be replaced: it is a file, a folder, or there is none. The system refuses to replace a
-/// folder. A device or a pipe has to stay.
+/// Whether a file of this name may be replaced: a device or a pipe has to stay. What cannot be looked at may be
+/// replaced, such as a symbolic link to itself. The system refuses to replace a folder.
 fn may_be_replaced<R: Files>(rt: &R, target: &str) -> bool {
     match fs::metadata(rt, target) {
         Ok(metadata) => metadata.is_file() || metadata.is_dir(),

@@ -1,9 +1,9 @@
-use Rattle.std.proofs.Common.{◌≡◌, ◌∙◌, ◌⊎◌, IfSome, inl, inr, sym, subst, map, codes, [], List, Option}
+use Rattle.std.proofs.Common.{◌≡◌, ◌∙◌, ◌⊎◌, inl, inr, sym, subst, map, codes, List, Option}
 use Rattle.std.proofs.lemmas.Result.{IfErr-weaker, IfOk-weaker}
 use Rattle.std.specs.Prelude.{◌↔◌, IsTrue}
-use Rattle.clap.specs.Words.{Text, app_of, fault_of, first_value, found_of}
+use Rattle.clap.specs.Words.{Text, app_of, first_value, found_of}
 use Rattle.wm_command.proofs.LineLemmas.{Taken, refused, taken}
-use Rattle.wm_command.specs.Lines.{Asks, AsksNothing, IsFaultOf, IsInputs, IsLimit, IsMost, IsProfile, IsSpellings, MayWrite, NamesNoOther, Says, Stands, files_found, files_of, wmod, word_of}
+use Rattle.wm_command.specs.Lines.{Asks, AsksNothing, HasFeatures, IsFaultOf, IsInputs, IsLimit, IsMost, IsProfile, IsSpellings, MayWrite, NamesNoOther, Says, Stands, files_found, files_of, word_of}
 use Rattle.wm_command.specs.declared.arguments.Line.{Line}
 use Rattle.wm_command.specs.declared.arguments.Request.{Request}
 use Rattle.wm_command.specs.declared.arguments.Request.TheVariants as request
@@ -16,7 +16,11 @@ use Rattle.wm_command.proofs.line.request.Goals as goal
 says_along : (word other : Text → Option Text) → ((id : Text) → word id ≡ other id) → (files : List Text) (l : Line) → Says word files l → Says other files l
 says_along word other same files l says = record {
   action = sym (same (codes "ACTION")) ∙ says.action;
-  profile = subst (λ o. IsProfile o l.profile) (same (codes "profile")) says.profile;
+  profile = (
+    says.profile.0,
+    subst (λ o. IsProfile o says.profile.0) (same (codes "profile")) says.profile.1,
+    subst (λ o. HasFeatures o says.profile.0 l.profile) (same (codes "features")) says.profile.2,
+  );
   limit = subst (λ o. IsLimit o l.limit) (same (codes "limit")) says.limit;
   policy = record {
     functions = subst (λ o. IsMost o l.policy.functions) (same (codes "max-functions")) says.policy.functions;
@@ -41,6 +45,7 @@ asks_by_words : (word other : Text → Option Text) → ((id : Text) → word id
 asks_by_words word other same files (request.Run l) says = says_along word other same files l says
 asks_by_words word other same files (request.Explain name) asks = (sym (same _) ∙ asks.0, asks.1, names_along word other same asks.2)
 asks_by_words word other same files request.Help asks = (sym (same _) ∙ asks.0, asks.1, names_along word other same asks.2)
+asks_by_words word other same files request.Features asks = ((asks.0.0, sym (same _) ∙ asks.0.1, asks.0.2), sym (same _) ∙ asks.1)
 
 asks_along : (word other : Text → Option Text) → ((id : Text) → word id ≡ other id) → (files others : List Text) → files ≡ others → (r : Request) → Asks word files r
     → Asks other others r

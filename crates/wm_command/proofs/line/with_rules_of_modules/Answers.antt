@@ -10,4 +10,5 @@ returns c =
     let three = c.in_ok-arg-3.ensures.shape c.option_arg-3.ensures.local ∙ ap₂ with_rule two c.option_arg-3.ensures.rule in
     let four = c.in_ok-arg-4.ensures.shape c.option_arg-4.ensures.local ∙ ap₂ with_rule three c.option_arg-4.ensures.rule in
     let five = c.in_ok-arg-5.ensures.shape c.option_arg-5.ensures.local ∙ ap₂ with_rule four c.option_arg-5.ensures.rule in
-    IfOk-weaker c.arg-6.result _ _ (λ x h. h.shape c.flag_arg.ensures.local ∙ ap₂ with_rule five c.flag_arg.ensures.rule) c.arg-6.ensures
+    let six = c.in_ok-arg-6.ensures.shape c.option_arg-6.ensures.local ∙ ap₂ with_rule five c.option_arg-6.ensures.rule in
+    IfOk-weaker c.arg-7.result _ _ (λ x h. h.shape c.flag_arg.ensures.local ∙ ap₂ with_rule six c.flag_arg.ensures.rule) c.arg-7.ensures
