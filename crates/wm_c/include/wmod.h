@@ -43,11 +43,19 @@ extern "C" {
 #define WMOD_MEMORY 4u   /* memory was refused: nothing is known of the input */
 #define WMOD_NO_ROOM 5u  /* from conversions only: the output is longer than the buffer; nothing was written */
 
-/* The instructions and value types that a module may use. */
+/* The instructions and value types that a module may use: the number of a profile. Features are added to it by |, as in
+ * WMOD_PROFILE_3 | WMOD_SIGN_EXT. */
 #define WMOD_PROFILE_1 1u /* WebAssembly 1.0 without f32, f64 and the instructions on them */
 #define WMOD_PROFILE_2 2u /* profile 1 and the five sign-extension instructions */
 #define WMOD_PROFILE_3 3u /* all of WebAssembly 1.0 */
 #define WMOD_PROFILE_4 4u /* profile 3 and the five sign-extension instructions */
+
+/* The features, with LLVM's words for them, which `wmod --features` takes. Any other bit is WMOD_MISUSE: an older
+ * library takes no feature that it does not know. */
+#define WMOD_SIGN_EXT 0x100u /* sign-ext: the five sign-extension instructions, such as i32.extend8_s */
+#define WMOD_CALL_INDIRECT_OVERLONG 0x200u /* call-indirect-overlong: a table index of several bytes in call_indirect, as clang writes it */
+#define WMOD_NONTRAPPING_FPTOINT 0x400u /* nontrapping-fptoint: the eight truncations that saturate, such as i32.trunc_sat_f64_s */
+#define WMOD_BULK_MEMORY_OPT 0x800u /* bulk-memory-opt: memory.copy and memory.fill */
 
 /* Limits of an input, in bytes. A longer binary is refused as WMOD_WHY_TOO_LONG, unless its first bytes are refused for
  * another reason. A longer text is always refused as WMOD_WHY_TOO_LONG. */
@@ -124,8 +132,8 @@ typedef struct wmod_answer {
   uint64_t probes;    /* the most probes of one search for a local */
 } wmod_answer;
 
-/* Judges an input that is in memory as a whole. Returns the answer's status: WMOD_MISUSE if the profile is not 1 to 4,
- * or the limit is above WMOD_LIMIT_MOST.
+/* Judges an input that is in memory as a whole. Returns the answer's status: WMOD_MISUSE if `profile` is not a number of
+ * a profile with features added, or the limit is above WMOD_LIMIT_MOST.
  *
  * Proved: WMOD_VALID comes only for valid modules of the profile within the limit, and WMOD_REFUSED only for other
  * inputs. With either status, the bytes alone determine the refusal, the offset and the figures. The meaning of a
@@ -141,7 +149,7 @@ uint32_t wmod_validate(const uint8_t *bytes, size_t length, uint32_t profile, ui
  */
 typedef struct wmod_options {
   uint64_t size;      /* sizeof(wmod_options); another size is WMOD_MISUSE */
-  uint64_t profile;   /* WMOD_PROFILE_1 to WMOD_PROFILE_4 */
+  uint64_t profile;   /* WMOD_PROFILE_1 to WMOD_PROFILE_4, and features added by | */
   uint64_t max_bytes; /* at most WMOD_LIMIT_MOST */
   uint64_t functions; /* the most functions, imported ones counted */
   uint64_t locals;    /* the most declared locals of a function; parameters are not counted */
@@ -249,6 +257,47 @@ uint32_t wmod_feed(wmod_validator *v, const uint8_t *piece, size_t length);
 /* Ends the input. The answer is the one that wmod_validate gives to the joined pieces, if memory is refused to neither.
  * A second call gives it again. WMOD_MISUSE: the handle is empty. */
 uint32_t wmod_finish(wmod_validator *v, wmod_answer *answer);
+
+/* The part of the format that a byte belongs to. */
+enum {
+  WMOD_AWAITS_NUMBER = 1,       /* a size, a count, an index or an immediate, in LEB128 */
+  WMOD_AWAITS_NAME = 2,         /* a name */
+  WMOD_AWAITS_VALUE_TYPE = 3,   /* a value type */
+  WMOD_AWAITS_BLOCK_TYPE = 4,   /* a block type */
+  WMOD_AWAITS_TYPE_FORM = 5,    /* the byte 60 that begins a function type */
+  WMOD_AWAITS_LIMITS_FLAG = 6,  /* the flag of limits */
+  WMOD_AWAITS_ELEMENT_TYPE = 7, /* the element type of a table */
+  WMOD_AWAITS_MUTABILITY = 8,   /* the mutability of a global */
+  WMOD_AWAITS_OPCODE = 9,       /* the first byte of an instruction */
+  WMOD_AWAITS_TABLE_BYTE = 10,  /* the table index at the end of a call_indirect */
+  WMOD_AWAITS_MEMORY_BYTE = 11, /* a byte 00 of a memory instruction */
+  WMOD_AWAITS_KIND = 12,        /* the kind of an import or an export */
+  WMOD_AWAITS_ANY = 13,         /* any byte: of a float constant, a data segment, or a custom section after its name */
+  WMOD_AWAITS_OPCODE_NUMBER = 14 /* the first byte of the number behind the byte FC of an instruction */
+};
+
+/* The place of a byte in a module. WMOD_NONE stands for no value. */
+struct wmod_place {
+  uint32_t section; /* the id of its section: 0 for a custom section, else 1 to 11. WMOD_NONE in the header of the
+                       module and at the id of a section */
+  uint32_t item;    /* how many members of the section come before it, such as types or function bodies. WMOD_NONE in
+                       the size and the count of a section, in a custom section, and outside of sections */
+  uint32_t index;   /* the index of its member: `item`, and for a function or a global the imported ones before it.
+                       WMOD_NONE where `item` is */
+  uint32_t awaits;  /* WMOD_AWAITS_NUMBER .. WMOD_AWAITS_OPCODE_NUMBER, or 0 where `section` is WMOD_NONE */
+  uint32_t byte;    /* the byte that was refused. WMOD_NONE if none was: the end of the input, the limit or memory
+                       decided, or nothing is refused so far */
+};
+#define WMOD_NONE ((uint32_t)-1)
+
+/* Gives the place of the byte that was refused; its offset is `at` of the answer. If none was, it is the place of the
+ * next byte or, after wmod_finish, of the end of the input. A call before wmod_finish gives the same as one after it.
+ * The handle stays as it is. Returns WMOD_VALID, or WMOD_MISUSE if the handle is empty: the place is then that of no
+ * byte.
+ *
+ * Proved, unless memory was refused: the byte lies in `section`, if that is not WMOD_NONE. The profile and the bytes
+ * before the byte alone determine `section` and `awaits`. Tested: the meaning of `awaits`, and the other fields. */
+uint32_t wmod_place(wmod_validator *v, struct wmod_place *place);
 
 /* Frees what the handle holds, at any moment, and leaves it empty. Does nothing if the handle is empty. */
 void wmod_end(wmod_validator *v);

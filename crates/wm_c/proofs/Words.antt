@@ -1,8 +1,8 @@
 -- A word that is written behind another one: the buffer is as if both were written at once.
-use Rattle.std.proofs.Common.{◌≡◌, ◌<◌, ◌≤◌, ◌+◌, ◌-◌, ◌++◌, ◌∷◌, ℕ, List, [], length, take, drop, min, refl, sym, ap, subst, arith, append_assoc, length-append, ◌∙◌}
+use Rattle.std.proofs.Common.{◌≡◌, ◌<◌, ◌≤◌, ◌+◌, ◌++◌, ◌∷◌, ℕ, List, [], length, take, drop, min, refl, sym, ap, subst, arith, append_assoc, length-append, ◌∙◌}
 use Rattle.std.proofs.Math.Seq.{take-append_seam, drop-append_seam, take-append-add, drop-append-add, take-length}
 use Rattle.std.proofs.lemmas.List.{take-append-drop, length-take-le, length-take, length-drop, take_all}
-use Rattle.wm_c.specs.Names.{IsWritten, written}
+use Rattle.wm_c.specs.Names.{written}
 
 -- the buffer has room for the whole word and the 0
 whole : (front p q : List ℕ) (c : ℕ) → length p ≡ length front → written front (c ∷ (p ++ q)) ≡ front ++ (0 ∷ q)

@@ -1,5 +1,5 @@
-/* Judges standard input in pieces. If it is refused, prints the line of `wmod check`, what the refusal means, and what to
- * do.
+/* Judges standard input in pieces. If it is refused, prints the line of `wmod check`, the section and the member of the
+ * byte that decided, what the refusal means, and what to do.
  *
  *   cc explain.c $(pkg-config --cflags --libs wmod) -o explain
  */
@@ -8,11 +8,20 @@
 
 static uint8_t piece[65536];
 
-static void say_refusal(const wmod_answer *answer) {
+static void say_refusal(wmod_validator *v, const wmod_answer *answer) {
   char name[32], text[WMOD_EXPLAIN_ROOM];
+  struct wmod_place place;
   wmod_why_name(answer->why, name, sizeof name);
   wmod_explain(answer->why, text, sizeof text);
+  wmod_place(v, &place);
   printf("refused at %lu: %s\n", (unsigned long)answer->at, name);
+  if (place.section != WMOD_NONE) {
+    printf("in section %lu", (unsigned long)place.section);
+    if (place.item != WMOD_NONE) {
+      printf(", member %lu", (unsigned long)place.item);
+    }
+    puts("");
+  }
   puts(text);
 }
 
@@ -32,7 +41,7 @@ int main(void) {
   } else if (answer.status == WMOD_VALID) {
     puts("valid");
   } else if (answer.status == WMOD_REFUSED) {
-    say_refusal(&answer);
+    say_refusal(&v, &answer);
   }
   wmod_end(&v);
   return (int)answer.status;

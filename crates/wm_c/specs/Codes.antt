@@ -1,5 +1,5 @@
 -- The numbers of refusals, statuses and profiles in the C interface.
-use Rattle.std.specs.Prelude.{◌≡◌, ◌⊎◌, ℕ}
+use Rattle.std.specs.Prelude.{◌≡◌, ◌⊎◌, ◌+◌, ◌*◌, ℕ, List, [], ◌∷◌}
 use Rattle.wm_syntax.specs.declared.why.Why.{Why}
 use Rattle.wm_syntax.specs.declared.why.Why.TheVariants.{Magic, Version, SectionId, SectionOrder, SectionEnd}
 use Rattle.wm_syntax.specs.declared.why.Why.TheVariants.{BadNumber, BadUtf8, BadByte, Float, BadOpcode}
@@ -7,10 +7,12 @@ use Rattle.wm_syntax.specs.declared.why.Why.TheVariants.{Truncated, CodeCount, B
 use Rattle.wm_syntax.specs.declared.why.Why.TheVariants.{Mismatch, Arity, Limits, Second, DuplicateExport}
 use Rattle.wm_syntax.specs.declared.why.Why.TheVariants.{StartType, NotConst, Immutable, Align, ElsePlace}
 use Rattle.wm_syntax.specs.declared.why.Why.TheVariants.{TooLong, Memory, ManyFunctions, ManyLocals, Deep}
+use Rattle.wm_syntax.specs.declared.profile.Feature.{Feature}
+use Rattle.wm_syntax.specs.declared.profile.Feature.TheVariants.{Copies, LongIndex, Saturation, SignExtension}
 use Rattle.wm_syntax.specs.declared.profile.Profile.{Profile}
 use Rattle.wm_tokens.specs.declared.faults.TextWhy.{TextWhy}
 use Rattle.wm_tokens.specs.declared.faults.TextWhy.TheVariants as text
-use Rattle.wm_syntax.specs.Profiles.{four, one, three, two}
+use Rattle.wm_syntax.specs.Profiles.{AddsFeature, four, one, three, two}
 
 -- The number of a refusal of a module. 0 means no refusal.
 abbrev pub why_code : Why → ℕ
@@ -126,6 +128,28 @@ text_status_code text.Float = 1
 text_status_code text.Memory = 4
 text_status_code text.BadFloat = 1
 
--- This is the number of this profile. Any other number is that of none.
-pub record IsProfileCode (n : ℕ) (p : Profile) : Type 0 where
+-- This number from 1 to 4 names this profile. Any other number names none.
+pub record NumbersProfile (n : ℕ) (p : Profile) : Type 0 where
   pub is : ((n ≡ 1) × (p ≡ one)) ⊎ ((n ≡ 2) × (p ≡ two)) ⊎ ((n ≡ 3) × (p ≡ three)) ⊎ ((n ≡ 4) × (p ≡ four))
+
+-- The feature of each bit of a profile's number, from the bit 0x100 up.
+abbrev pub bit_features : List Feature
+bit_features = SignExtension ∷ LongIndex ∷ Saturation ∷ Copies ∷ []
+
+-- The profile `p` is `base` with the features added whose bits are 1 in this number. The lowest bit is that of the first
+-- feature. Each bit past the last feature is 0.
+abbrev pub AddsBits : List Feature → Profile → ℕ → Profile → Type 0
+AddsBits [] base bits p = (bits ≡ 0) × (p ≡ base)
+AddsBits (feature ∷ features) base bits p = (more : ℕ)
+    × (((bits ≡ 2 * more) × AddsBits features base more p)
+    ⊎ ((bits ≡ 2 * more + 1) × ((q : Profile) × AddsFeature base feature q × AddsBits features q more p)))
+
+-- This is a number of this profile: a number from 1 to 4, and the bits of features that are added to it. Any other number
+-- is that of none.
+pub record IsProfileCode (n : ℕ) (p : Profile) : Type 0 where
+  pub low : ℕ
+  pub bits : ℕ
+  pub sum : n ≡ low + 256 * bits
+  pub base : Profile
+  pub numbered : NumbersProfile low base
+  pub added : AddsBits bit_features base bits p

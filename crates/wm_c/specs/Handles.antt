@@ -5,7 +5,7 @@ use Rattle.wm_machine.specs.declared.refusal.Refusal.{Refusal}
 use Rattle.wm_rules.specs.declared.policy.Policy.{Policy}
 use Rattle.wm_c.specs.declared.answer.Answer.{Answer}
 use Rattle.wm_c.specs.declared.session.Session.{Session}
-use Rattle.wm_c.specs.Sessions.{HasEnded, HasTaken, IsReading, IsOver, StateRanOut, StateRefused}
+use Rattle.wm_c.specs.Sessions.{HasEnded, HasTaken, IsAt, IsReading, IsOver, StateRanOut, StateRefused}
 use base.Fml.{Fml, feq}
 use denote.RawPtr.{Ptr, null_ptr}
 use denote.RattleType.{RattleType}
@@ -51,3 +51,9 @@ RanOut (Some s) = StateRanOut s.state
 abbrev pub HoldsRefusal : Option Session → Refusal → Type 0
 HoldsRefusal None r = ⊥
 HoldsRefusal (Some s) r = StateRefused s.state r
+
+-- The handle holds a session that was refused, or has its answer, at a byte with these numbers of a section and of a
+-- part of the format.
+abbrev pub HoldsPlace : Option Session → ℕ × ℕ → Type 0
+HoldsPlace None n = ⊥
+HoldsPlace (Some s) n = IsAt s n

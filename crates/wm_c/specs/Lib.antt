@@ -4,4 +4,5 @@ pub mod Conversions
 pub mod Handles
 pub mod Names
 pub mod Options
+pub mod Places
 pub mod Sessions

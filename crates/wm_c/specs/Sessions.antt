@@ -1,4 +1,4 @@
--- The state of a session: the bytes that it has taken, its refusal and its answer.
+-- The state of a session: the bytes that it has taken, its refusal, its answer and its place.
 use Rattle.std.specs.Prelude.{◌≡◌, ℕ, List, IfSome, Some}
 use Rattle.wm_syntax.specs.declared.profile.Profile.{Profile}
 use Rattle.wm_syntax.specs.declared.why.Why.TheVariants.{Memory}
@@ -10,6 +10,8 @@ use Rattle.wm_c.specs.declared.session.Session.{Session}
 use Rattle.wm_c.specs.declared.session.State.{State}
 use Rattle.wm_c.specs.declared.session.State.TheVariants.{Reading, Ended}
 use Rattle.wm_c.specs.Answers.{IsAnswerOf}
+use Rattle.wm_c.specs.Places.{numbers_in}
+use Rattle.wm_c.specs.declared.place.Place.{Place}
 
 -- The state fits these bytes: its validator has read them, or its answer is a right answer to them.
 abbrev pub StateTaken : State → Profile → ℕ → Policy → List ℕ → Type 0
@@ -43,3 +45,11 @@ StateRanOut (Ended a) = ⊥
 abbrev pub StateRefused : State → Refusal → Type 0
 StateRefused (Reading v) r = refusal_in v ≡ Some r
 StateRefused (Ended a) r = ⊥
+
+-- The session was refused, or has its answer, at a byte with these numbers of a section and of a part of the format.
+abbrev pub StateIsAt : State → Place → ℕ × ℕ → Type 0
+StateIsAt (Reading v) place n = (r : Refusal) × (refusal_in v ≡ Some r) × (numbers_in place ≡ n)
+StateIsAt (Ended a) place n = numbers_in place ≡ n
+
+abbrev pub IsAt : Session → ℕ × ℕ → Type 0
+IsAt s n = StateIsAt s.state s.place n

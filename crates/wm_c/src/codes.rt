@@ -3,11 +3,12 @@
 ghost use Rattle.std.specs.Prelude.{◌≡◌, ◌≢◌, MatchOption};
 ghost use Rattle.wm_syntax.specs.declared.why.Why.{Why as AWhy};
 ghost use Rattle.wm_syntax.specs.declared.profile.Profile.{Profile as AProfile};
-ghost use Rattle.wm_c.specs.Codes.{IsProfileCode, status_code, text_code, text_status_code, why_code};
+ghost use Rattle.wm_c.specs.Codes.{AddsBits, IsProfileCode, NumbersProfile};
+ghost use Rattle.wm_c.specs.Codes.{status_code, text_code, text_status_code, why_code};
 ghost use Rattle.wm_tokens.specs.declared.faults.TextWhy.{TextWhy as ATextWhy};
 
 use wm_read::faults::TextWhy;
-use wm_syntax::profile::Profile;
+use wm_syntax::profile::{Feature, Profile};
 use wm_syntax::why::Why;
 
 /// The number of a refusal, 1 to 30.
@@ -166,9 +167,42 @@ pub(crate) fn text_of(number: u32) -> Option<TextWhy>
     }
 }
 
-/// Returns the profile with this number, 1 to 4.
+/// The feature of each bit of a profile's number, from the bit 0x100 up: `WMOD_SIGN_EXT` and those after it.
+const FEATURES: [Feature; 4] = [
+    Feature::SignExtension,
+    Feature::LongIndex,
+    Feature::Saturation,
+    Feature::Copies,
+];
+
+/// Returns the profile with this number: 1 to 4, and the bits of features that are added to it.
 pub(crate) fn profile_of(number: u64) -> Option<Profile>
     ensures { MatchOption result ((p : AProfile) → IsProfileCode number p → ⊥) (IsProfileCode number) }
+{
+    let base = numbered(number % 256)?;
+    with_bits(base, number / 256, &FEATURES)
+}
+
+/// Returns the profile with the features added whose bits are 1, the lowest bit first. Returns `None` if a bit past the
+/// last feature is 1.
+fn with_bits(base: Profile, bits: u64, features: &[Feature]) -> Option<Profile>
+    ensures { MatchOption result ((other p : AProfile) → AddsBits features.now other bits p → ⊥)
+        (AddsBits features.now base bits) }
+{
+    let mut profile = base;
+    let mut rest = bits;
+    for feature in features {
+        if rest % 2 == 1 {
+            profile = profile.with(*feature);
+        }
+        rest /= 2;
+    }
+    if rest == 0 { Some(profile) } else { None }
+}
+
+/// Returns the profile with this number, 1 to 4.
+fn numbered(number: u64) -> Option<Profile>
+    ensures { MatchOption result ((p : AProfile) → NumbersProfile number p → ⊥) (NumbersProfile number) }
 {
     match number {
         1 => Some(Profile::ONE),

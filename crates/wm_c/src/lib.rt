@@ -10,5 +10,6 @@ pub mod names;
 pub mod options;
 pub mod output;
 pub mod pieces;
+pub mod place;
 pub mod session;
 pub mod whole;

@@ -1,10 +1,12 @@
 //! The calls for an input in pieces.
 
-ghost use Rattle.std.specs.Prelude.{◌≡◌, ◌≢◌, ◌++◌, ◌↔◌, ◌⊎◌, ℕ, List, [], Err, None};
+ghost use Rattle.std.specs.Prelude.{◌≡◌, ◌≢◌, ◌-◌, ◌++◌, ◌↔◌, ◌⊎◌, ℕ, List, [], Err, None, take};
 ghost use Rattle.wm_c.specs.Answers.{IsAnswerOf, in_numbers, misuse};
 ghost use Rattle.wm_c.specs.Codes.{status_code};
-ghost use Rattle.wm_c.specs.Handles.{Holds, HoldsAnswer, HoldsRefusal, RanOut, TakesNothing, TakesPieces};
+ghost use Rattle.wm_c.specs.Handles.{Holds, HoldsAnswer, HoldsRefusal, HoldsPlace, RanOut};
+ghost use Rattle.wm_c.specs.Handles.{TakesNothing, TakesPieces};
 ghost use Rattle.wm_c.specs.Options.{Asking, Asks, plain_options};
+ghost use Rattle.wm_c.specs.Places.{nowhere, numbers_after, numbers_in};
 ghost use Rattle.wm_c.specs.declared.answer.Answer.{Answer as AnAnswer};
 ghost use Rattle.wm_machine.specs.declared.refusal.Refusal.{Refusal as ARefusal};
 ghost use Rattle.wm_rules.specs.Validation.{Accepted};
@@ -15,6 +17,7 @@ use crate::answer::Answer;
 use crate::handle::Handle;
 use crate::loose::Loose;
 use crate::options::Options;
+use crate::place::Place;
 use crate::session::Session;
 use std::alloc::Global;
 use std::mem;
@@ -97,6 +100,12 @@ pub extern "C" fn wmod_feed(alloc: Global, v: &mut Handle, piece: &[u8]) -> u32
         × HoldsRefusal v.new.held r }
     ensures stays { (r : ARefusal) → HoldsRefusal v.old.held r → (result ≡ status_code r.why)
         × HoldsRefusal v.new.held r }
+    // The handle keeps the section of the byte at the offset of a first refusal, and the part of the format there.
+    ensures spot { result ≡ 1 → ((r : ARefusal) → HoldsRefusal v.old.held r → ⊥)
+        → (p : AProfile) (limit : ℕ) (q : APolicy) (before : List ℕ) → Holds v.old.held p limit q before
+        → (r : ARefusal) → HoldsRefusal v.new.held r
+        → HoldsPlace v.new.held (numbers_after p (take (r.at - 1) (before ++ piece.now))) }
+    ensures still { (n : ℕ × ℕ) → HoldsPlace v.old.held n → HoldsPlace v.new.held n }
 {
     match emptied(v).take(alloc) {
         None => 2,
@@ -122,9 +131,41 @@ pub extern "C" fn wmod_finish(alloc: Global, v: &mut Handle, answer: &mut Answer
     ensures ended { v.old.held ≢ None → HoldsAnswer v.new.held answer.new }
     ensures none { v.old.held ≡ None → (answer.new ≡ misuse) × (v.new.held ≡ None) }
     ensures status { result ≡ answer.new.status }
+    // The handle keeps those of a refusal, or those of the end of the input if no piece was refused.
+    ensures still { (n : ℕ × ℕ) → HoldsPlace v.old.held n → HoldsPlace v.new.held n }
+    ensures spot { TakesPieces v.old.held → ((r : ARefusal) → HoldsRefusal v.old.held r → ⊥)
+        → (p : AProfile) (limit : ℕ) (q : APolicy) (input : List ℕ) → Holds v.old.held p limit q input
+        → HoldsPlace v.new.held (numbers_after p input) }
 {
     *answer = answered(alloc, v);
     answer.status
+}
+
+/// Writes the place of the byte that was refused; if none was, that of the next byte or of the end of the input. Returns
+/// 0, or 2 if the handle is empty. Contracts pin the fields `section` and `awaits`; the others are tested.
+#[unsafe(no_mangle)]
+pub extern "C" fn wmod_place(alloc: Global, v: &mut Handle, place: &mut Place) -> u32
+    ensures spot { (n : ℕ × ℕ) → HoldsPlace v.old.held n → numbers_in place.new ≡ n }
+    // If nothing is refused so far, they are those of the next byte.
+    ensures next { TakesPieces v.old.held → ((r : ARefusal) → HoldsRefusal v.old.held r → ⊥)
+        → (p : AProfile) (limit : ℕ) (q : APolicy) (bytes : List ℕ) → Holds v.old.held p limit q bytes
+        → numbers_in place.new ≡ numbers_after p bytes }
+    ensures same { v.new.held ≡ v.old.held }
+    ensures status { v.old.held ≢ None → result ≡ 0 }
+    ensures none { v.old.held ≡ None → (result ≡ 2) × (place.new ≡ nowhere) }
+{
+    match emptied(v).take(alloc) {
+        None => {
+            *place = Place::nowhere();
+            2
+        }
+        Some(loose) => {
+            let session = loose.into_box();
+            *place = session.place();
+            put(alloc, v, Handle::of(Loose::of(session)));
+            0
+        }
+    }
 }
 
 /// Frees what the handle holds, and leaves it empty.
@@ -144,6 +185,10 @@ fn answered(alloc: Global, v: &mut Handle) -> Answer
     ensures again { (a : AnAnswer) → HoldsAnswer v.old.held a → (result ≡ a) × (v.new.held ≡ v.old.held) }
     ensures ended { v.old.held ≢ None → HoldsAnswer v.new.held result }
     ensures none { v.old.held ≡ None → (result ≡ misuse) × (v.new.held ≡ None) }
+    ensures still { (n : ℕ × ℕ) → HoldsPlace v.old.held n → HoldsPlace v.new.held n }
+    ensures spot { TakesPieces v.old.held → ((r : ARefusal) → HoldsRefusal v.old.held r → ⊥)
+        → (p : AProfile) (limit : ℕ) (q : APolicy) (input : List ℕ) → Holds v.old.held p limit q input
+        → HoldsPlace v.new.held (numbers_after p input) }
 {
     match emptied(v).take(alloc) {
         None => Answer::misused(),

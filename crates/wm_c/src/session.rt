@@ -1,14 +1,16 @@
-//! A session: a validator, or the answer after the end of the input.
+//! A session: a validator, or the answer and the place after the end of the input.
 
-ghost use Rattle.std.specs.Prelude.{◌≡◌, ◌≢◌, ◌≤◌, ◌^◌, ◌++◌, ◌↔◌, ℕ, List, [], Err, IfSome, Some};
+ghost use Rattle.std.specs.Prelude.{◌≡◌, ◌≢◌, ◌<◌, ◌≤◌, ◌^◌, ◌-◌, ◌++◌, ◌↔◌, ℕ, List, [], Err, IfSome, None, Some, length, take};
 ghost use Rattle.wm_c.specs.Answers.{IsAnswerOf, IsRight, in_numbers};
 ghost use Rattle.wm_c.specs.Codes.{status_code};
-ghost use Rattle.wm_c.specs.Sessions.{HasTaken, HasEnded, IsReading, IsOver};
+ghost use Rattle.wm_c.specs.Places.{numbers_after, numbers_in};
+ghost use Rattle.wm_c.specs.Sessions.{HasTaken, HasEnded, IsAt, IsReading, IsOver};
 ghost use Rattle.wm_c.specs.Sessions.{StateRanOut, StateRefused, StateTaken};
 ghost use Rattle.wm_c.specs.declared.session.State.TheVariants.{Ended};
 ghost use Rattle.wm_machine.specs.declared.refusal.Refusal.{Refusal as ARefusal};
 ghost use Rattle.wm_rules.specs.Validation.{Accepted};
 ghost use Rattle.wm_rules.specs.declared.policy.Policy.{Policy as APolicy};
+ghost use Rattle.wm_rules.specs.inner.Finding.{IsAfterAny};
 ghost use Rattle.wm_rules.specs.inner.Validators.{HasRead, HavingRead, refusal_in};
 ghost use Rattle.wm_syntax.specs.declared.profile.Profile.{Profile as AProfile};
 ghost use Rattle.wm_syntax.specs.declared.why.Why.TheVariants.{Memory};
@@ -16,15 +18,18 @@ ghost use Rattle.wm_syntax.specs.declared.why.Why.TheVariants.{Memory};
 use crate::answer::Answer;
 use crate::codes::refused_status;
 use crate::options::Asked;
+use crate::place::Place;
 use std::alloc::Global;
 use std::mem;
-use wm_decode::Refusal;
-use wm_rules::{Summary, Validator};
+use wm_decode::{Refusal, Snapshot};
+use wm_rules::{Found, Imported, Summary, Validator};
 
-/// Judges an input that comes in pieces, and keeps the answer.
+/// Judges an input that comes in pieces, and keeps the answer and its place.
 #[derive(Drop)]
 pub struct Session {
     pub state: State,
+    // set by a refusal, and by the end of the input
+    pub place: Place,
 }
 
 /// The state of a session: it reads, or it has its answer.
@@ -51,6 +56,7 @@ impl Session {
         } = asked;
         Session {
             state: State::Reading(Validator::new(alloc, profile, max_bytes, policy)),
+            place: Place::nowhere(),
         }
     }
 
@@ -74,9 +80,19 @@ impl Session {
             × StateRefused self.new.state r }
         ensures stays { (r : ARefusal) → StateRefused self.old.state r → (result ≡ status_code r.why)
             × StateRefused self.new.state r }
+        // The session is at the byte at the offset of a first refusal, and stays there.
+        ensures spot { result ≡ 1 → ((r : ARefusal) → StateRefused self.old.state r → ⊥)
+            → (p : AProfile) (limit : ℕ) (q : APolicy) (before : List ℕ) → HasTaken self.old p limit q before
+            → (r : ARefusal) → StateRefused self.new.state r
+            → IsAt self.new (numbers_after p (take (r.at - 1) (before ++ piece.now))) }
+        ensures still { (n : ℕ × ℕ) → IsAt self.old n → IsAt self.new n }
     {
         match &mut self.state {
-            State::Reading(validator) => fed(validator, piece),
+            State::Reading(validator) => {
+                let AfterPiece { status, place } = fed(validator, self.place, piece);
+                self.place = place;
+                status
+            }
             State::Ended(_) => 2,
         }
     }
@@ -89,31 +105,101 @@ impl Session {
         ensures told { (r : ARefusal) → StateRefused self.old.state r → result ≡ in_numbers (Err r) }
         ensures ended { HasEnded self.new result }
         ensures again { (a : _) → HasEnded self.old a → (result ≡ a) × (self.new ≡ self.old) }
+        ensures still { (n : ℕ × ℕ) → IsAt self.old n → IsAt self.new n }
+        // If no piece was refused, the session is at the end of the input.
+        ensures spot { IsReading self.old.state → ((r : ARefusal) → StateRefused self.old.state r → ⊥)
+            → (p : AProfile) (limit : ℕ) (q : APolicy) (input : List ℕ) → HasTaken self.old p limit q input
+            → IsAt self.new (numbers_after p input) }
     {
+        self.place = self.place();
         let answer = answer_of(mem::replace(&mut self.state, State::Ended(Answer::misused())));
         self.state = State::Ended(answer);
         answer
     }
+
+    /// Returns the place of the byte that was refused. If none was, returns that of the next byte, or of the end of the
+    /// input once the session has its answer.
+    pub fn place(&self) -> Place
+        ensures spot { (n : ℕ × ℕ) → IsAt self.now n → numbers_in result ≡ n }
+        ensures next { IsReading self.now.state → ((r : ARefusal) → StateRefused self.now.state r → ⊥)
+            → (p : AProfile) (limit : ℕ) (q : APolicy) (bytes : List ℕ) → HasTaken self.now p limit q bytes
+            → numbers_in result ≡ numbers_after p bytes }
+        ensures ended { IsOver self.now.state → result ≡ self.now.place }
+    {
+        match &self.state {
+            State::Reading(validator) => next_place(validator, self.place),
+            State::Ended(_) => self.place,
+        }
+    }
 }
 
-/// Feeds the validator a piece, and returns 0 or the status of its refusal.
+/// The status of a piece, and the place of the session after it.
+#[derive(Clone, Copy)]
+struct AfterPiece {
+    status: u32,
+    place: Place,
+}
+
+/// Feeds the validator a piece. The status is 0 or that of its refusal. The place is that of a first refusal, and else
+/// the one that the session had.
 #[tactic(auto, using(crate::proofs::Statuses::not_none))]
-fn fed(validator: &mut Validator, piece: &[u8]) -> u32
+fn fed(validator: &mut Validator, place: Place, piece: &[u8]) -> AfterPiece
     ensures read { HavingRead validator.old (λ p limit q before.
         HasRead validator.new p limit q (before ++ piece.now)) }
-    ensures refused { result ≡ 1 → HavingRead validator.old (λ p limit q before. (more : List ℕ)
+    ensures refused { result.status ≡ 1 → HavingRead validator.old (λ p limit q before. (more : List ℕ)
         → Accepted p limit q ((before ++ piece.now) ++ more) → ⊥) }
-    ensures status { result ≢ 2 }
-    ensures unrefused { result ≡ 0 → (r : ARefusal) → refusal_in validator.new ≡ Some r → ⊥ }
-    ensures memory { result ≡ 4 → IfSome (refusal_in validator.new) (λ r. r.why ≡ Memory) }
-    ensures first { result ≢ 0 → (r : ARefusal) × (result ≡ status_code r.why)
+    ensures status { result.status ≢ 2 }
+    ensures unrefused { result.status ≡ 0 → (r : ARefusal) → refusal_in validator.new ≡ Some r → ⊥ }
+    ensures memory { result.status ≡ 4 → IfSome (refusal_in validator.new) (λ r. r.why ≡ Memory) }
+    ensures first { result.status ≢ 0 → (r : ARefusal) × (result.status ≡ status_code r.why)
         × (refusal_in validator.new ≡ Some r) }
-    ensures stays { (r : ARefusal) → refusal_in validator.old ≡ Some r → (result ≡ status_code r.why)
+    ensures stays { (r : ARefusal) → refusal_in validator.old ≡ Some r → (result.status ≡ status_code r.why)
         × (refusal_in validator.new ≡ Some r) }
+    ensures spot { result.status ≡ 1 → refusal_in validator.old ≡ None → HavingRead validator.old
+        (λ p limit q before. (r : ARefusal) → refusal_in validator.new ≡ Some r
+        → numbers_in result.place ≡ numbers_after p (take (r.at - 1) (before ++ piece.now))) }
+    ensures still { (r : ARefusal) → refusal_in validator.old ≡ Some r → result.place ≡ place }
 {
+    let before = validator.snapshot();
     match validator.feed(piece) {
-        Ok(()) => 0,
-        Err(refusal) => refused_status(refusal.why),
+        Ok(()) => AfterPiece { status: 0, place },
+        Err(refusal) => AfterPiece {
+            status: refused_status(refusal.why),
+            place: refused_place(before, piece, refusal, validator.imported(), place),
+        },
+    }
+}
+
+/// Returns the place of the byte at which a piece was refused. `before` is the validator's snapshot before the piece.
+/// Without one the validator had refused a byte already, at the place `earlier`.
+fn refused_place(
+    before: Option<Snapshot>,
+    piece: &[u8],
+    refusal: Refusal,
+    imported: Imported,
+    earlier: Place,
+) -> Place
+    ensures found { (p : AProfile) (bytes : List ℕ) → IsAfterAny before p bytes → length bytes < refusal.at
+        → refusal.at ≤ length (bytes ++ piece.now)
+        → numbers_in result ≡ numbers_after p (take (refusal.at - 1) (bytes ++ piece.now)) }
+    ensures kept { before ≡ None → result ≡ earlier }
+{
+    match before {
+        Some(_) => Place::of(Found::in_piece(before, piece, refusal, imported)),
+        None => earlier,
+    }
+}
+
+/// Returns the place of the next byte. If the validator has refused a byte, returns the place `refused` of this one.
+fn next_place(validator: &Validator, refused: Place) -> Place
+    ensures next { refusal_in validator.now ≡ None → HavingRead validator.now
+        (λ p limit q bytes. numbers_in result ≡ numbers_after p bytes) }
+    ensures kept { (r : ARefusal) → refusal_in validator.now ≡ Some r → result ≡ refused }
+{
+    let next = validator.snapshot();
+    match next {
+        Some(_) => Place::of(Found::at_end(next, validator.imported())),
+        None => refused,
     }
 }
 
