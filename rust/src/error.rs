@@ -77,8 +77,13 @@ impl Error {
     /// For a binary it is the number of bytes read up to and including the deciding one. For a text it is the number of
     /// bytes before the deciding token. If [`build`](crate::build) refuses the module that a text writes, it is an
     /// offset in that module's canonical binary.
-    pub fn place(&self) -> Option<u64> {
+    pub fn offset(&self) -> Option<u64> {
         matches!(self.kind, ErrorKind::Module | ErrorKind::Text).then_some(self.at)
+    }
+
+    /// The older name of [`Error::offset`]. A [`Place`](crate::Place) is something else.
+    pub fn place(&self) -> Option<u64> {
+        self.offset()
     }
 }
 

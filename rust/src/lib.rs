@@ -2,7 +2,7 @@
 //!
 //! This crate calls the library of [wmod], which is proved. Unless memory runs out, it returns [`Ok`] for exactly the
 //! valid modules of the profile within the limits that you set. The default profile refuses floats; [`Profile`] has the
-//! others. Modules are never run.
+//! others, and a [`Feature`] adds to one. Modules are never run.
 //!
 //! ```
 //! let module = b"\0asm\x01\0\0\0";
@@ -10,7 +10,7 @@
 //!
 //! let error = wmod::validate(b"\0asn").unwrap_err();
 //! assert_eq!(error.to_string(), "refused at 4: Magic");
-//! assert_eq!((error.why(), error.place()), (wmod::Why::Magic, Some(4)));
+//! assert_eq!((error.why(), error.offset()), (wmod::Why::Magic, Some(4)));
 //! ```
 //!
 //! # Which call
@@ -22,7 +22,7 @@
 //! | a module, and want its canonical binary | [`canon`] | its bytes |
 //! | a module, and want its text | [`show`] | a text that [`build`] reads |
 //! | a text | [`build`] | the canonical binary of its module |
-//! | a profile, or limits of your own | [`Options`] | the same, from its methods |
+//! | a profile, features, or limits of your own | [`Options`] | the same, from its methods |
 //!
 //! # Linking
 //!
@@ -40,12 +40,14 @@
 mod convert;
 mod error;
 mod options;
+mod place;
 mod sys;
 mod validator;
 mod why;
 
 pub use error::{Error, ErrorKind};
-pub use options::{Options, Profile};
+pub use options::{Feature, Options, Profile};
+pub use place::{Awaits, Place};
 pub use validator::{Summary, Validator};
 pub use why::{Name, Why};
 

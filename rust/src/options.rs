@@ -45,7 +45,36 @@ impl Profile {
     }
 }
 
-/// A profile and limits. Each call of this crate is a method here too.
+/// A feature that [`Options::features`] adds to a profile. Each has a word of LLVM, which `wmod --features` takes.
+#[derive(Clone, Copy, PartialEq, Eq, Debug)]
+#[non_exhaustive]
+pub enum Feature {
+    /// `sign-ext`: the five sign-extension instructions, such as `i32.extend8_s`.
+    SignExt,
+    /// `call-indirect-overlong`: a table index of several bytes in `call_indirect`, as clang writes it.
+    CallIndirectOverlong,
+    /// `nontrapping-fptoint`: the eight truncations that saturate, such as `i32.trunc_sat_f64_s`.
+    NontrappingFptoint,
+    /// `bulk-memory-opt`: `memory.copy` and `memory.fill`.
+    BulkMemoryOpt,
+}
+
+impl Feature {
+    // Its bit in the number of a profile.
+    fn bit(self) -> u64 {
+        match self {
+            Feature::SignExt => sys::SIGN_EXT,
+            Feature::CallIndirectOverlong => sys::CALL_INDIRECT_OVERLONG,
+            Feature::NontrappingFptoint => sys::NONTRAPPING_FPTOINT,
+            Feature::BulkMemoryOpt => sys::BULK_MEMORY_OPT,
+        }
+    }
+}
+
+/// The bits of a profile's number that say which of the four it is. The bits above are features.
+const PROFILE_BITS: u64 = 0xFF;
+
+/// A profile, features and limits. Each call of this crate is a method here too.
 ///
 /// ```
 /// use wmod::{Options, Profile};
@@ -79,10 +108,26 @@ impl Options {
         })
     }
 
-    /// Sets the instructions and types that a module may use.
+    /// Sets the instructions and types that a module may use. Features that were added stay.
     #[must_use]
     pub fn profile(mut self, profile: Profile) -> Options {
-        self.0.profile = profile.number();
+        self.0.profile = self.0.profile & !PROFILE_BITS | profile.number();
+        self
+    }
+
+    /// Adds features to those of the profile. A module that was accepted without them is accepted with them.
+    ///
+    /// ```
+    /// use wmod::{Feature, Options, Profile};
+    ///
+    /// let options = Options::new().profile(Profile::THREE).features(&[Feature::SignExt]);
+    /// assert!(options.build("(module (type (func)) (func (type 0) i32.const 9 i32.extend8_s drop))").is_ok());
+    /// ```
+    #[must_use]
+    pub fn features(mut self, features: &[Feature]) -> Options {
+        for feature in features {
+            self.0.profile |= feature.bit();
+        }
         self
     }
 

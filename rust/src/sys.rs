@@ -10,6 +10,11 @@ pub(crate) const NO_ROOM: u32 = 5;
 pub(crate) const LIMIT_DEFAULT: u64 = 0xFFFF_FFFF;
 pub(crate) const LIMIT_MOST: u64 = 1 << 62;
 pub(crate) const NO_LIMIT: u64 = u64::MAX;
+pub(crate) const NONE: u32 = u32::MAX;
+pub(crate) const SIGN_EXT: u64 = 0x100;
+pub(crate) const CALL_INDIRECT_OVERLONG: u64 = 0x200;
+pub(crate) const NONTRAPPING_FPTOINT: u64 = 0x400;
+pub(crate) const BULK_MEMORY_OPT: u64 = 0x800;
 #[cfg(test)]
 pub(crate) const EXPLAIN_ROOM: usize = 1024;
 
@@ -48,6 +53,16 @@ pub(crate) struct Output {
 }
 
 #[repr(C)]
+#[derive(Default)]
+pub(crate) struct Place {
+    pub(crate) section: u32,
+    pub(crate) item: u32,
+    pub(crate) index: u32,
+    pub(crate) awaits: u32,
+    pub(crate) byte: u32,
+}
+
+#[repr(C)]
 pub(crate) struct Validator {
     pub(crate) state: *mut c_void,
 }
@@ -70,6 +85,7 @@ extern "C" {
     pub(crate) fn wmod_begin_with(v: *mut Validator, options: *const Options) -> u32;
     pub(crate) fn wmod_feed(v: *mut Validator, piece: *const u8, length: usize) -> u32;
     pub(crate) fn wmod_finish(v: *mut Validator, answer: *mut Answer) -> u32;
+    pub(crate) fn wmod_place(v: *mut Validator, place: *mut Place) -> u32;
     pub(crate) fn wmod_end(v: *mut Validator);
     pub(crate) fn wmod_canon(
         bytes: *const u8,
@@ -100,6 +116,7 @@ extern "C" {
 #[cfg(test)]
 mod tests {
     use super::*;
+    use crate::place::ALL_AWAITS;
     use std::mem::size_of_val;
     use std::ptr;
 
@@ -124,6 +141,22 @@ mod tests {
         }};
     }
 
+    /// The numbers of the parts of the format, by their names in capitals.
+    fn awaited() -> String {
+        let mut lines = String::new();
+        for (i, awaits) in ALL_AWAITS.iter().enumerate() {
+            lines += "WMOD_AWAITS";
+            for letter in format!("{awaits:?}").chars() {
+                if letter.is_uppercase() {
+                    lines.push('_');
+                }
+                lines.push(letter.to_ascii_uppercase());
+            }
+            lines += &format!(" {}\n", i + 1);
+        }
+        lines
+    }
+
     #[test]
     fn layout() {
         let options = crate::Options::new().0;
@@ -135,14 +168,19 @@ mod tests {
             laid!("wmod_options", options, size profile max_bytes functions locals depth old_words),
             laid!("wmod_output", Output::default(), status why at length),
             laid!("wmod_validator", validator, state),
+            laid!("struct wmod_place", Place::default(), section item index awaits byte),
             format!(
                 "WMOD_VALID {VALID}\nWMOD_REFUSED {REFUSED}\nWMOD_MISUSE 2\nWMOD_MEMORY {MEMORY}\n"
             ),
             format!("WMOD_NO_ROOM {NO_ROOM}\nWMOD_PROFILE_1 1\nWMOD_PROFILE_2 2\n"),
-            "WMOD_PROFILE_3 3\nWMOD_PROFILE_4 4\n".into(),
+            format!("WMOD_PROFILE_3 3\nWMOD_PROFILE_4 4\nWMOD_SIGN_EXT {SIGN_EXT}\n"),
+            format!("WMOD_CALL_INDIRECT_OVERLONG {CALL_INDIRECT_OVERLONG}\n"),
+            format!("WMOD_NONTRAPPING_FPTOINT {NONTRAPPING_FPTOINT}\n"),
+            format!("WMOD_BULK_MEMORY_OPT {BULK_MEMORY_OPT}\n"),
             format!("WMOD_LIMIT_DEFAULT {LIMIT_DEFAULT}\nWMOD_LIMIT_MOST {LIMIT_MOST}\n"),
-            format!("WMOD_NO_LIMIT {NO_LIMIT}\n"),
+            format!("WMOD_NO_LIMIT {NO_LIMIT}\nWMOD_NONE {NONE}\n"),
             format!("WMOD_EXPLAIN_ROOM {EXPLAIN_ROOM}\n"),
+            awaited(),
         ]
         .concat();
         assert_eq!(found, include_str!("../layout.txt"));

@@ -1,4 +1,4 @@
-use crate::{sys, Error, Options};
+use crate::{sys, Error, Options, Place};
 use std::fmt;
 use std::io;
 use std::ptr;
@@ -116,6 +116,26 @@ impl Validator {
             // only `wmod_finish` says which refusal it was; it may be called again
             _ => self.ended().map(drop),
         }
+    }
+
+    /// Returns the place of the byte that was refused, or of the next byte if none was. [`Error::place`] has the offset
+    /// of the byte.
+    ///
+    /// ```
+    /// let mut validator = wmod::Validator::new()?;
+    /// // a type section of two types, and no function type begins with 0x40
+    /// let error = validator.feed(b"\0asm\x01\0\0\0\x01\x07\x02\x60\0\0\x40").unwrap_err();
+    /// assert_eq!((error.why(), error.place()), (wmod::Why::BadByte, Some(15)));
+    /// let place = validator.place();
+    /// assert_eq!((place.section, place.item), (Some(1), Some(1)));
+    /// assert_eq!((place.awaits, place.byte), (Some(wmod::Awaits::TypeForm), Some(0x40)));
+    /// # Ok::<(), wmod::Error>(())
+    /// ```
+    pub fn place(&mut self) -> Place {
+        let mut place = sys::Place::default();
+        // SAFETY: the handle was begun; the call writes all fields.
+        unsafe { sys::wmod_place(&mut self.handle, &mut place) };
+        Place::of(&place)
     }
 
     /// Ends the input and returns its figures.

@@ -107,16 +107,18 @@ refusals! {
     4 "SectionOrder" SectionOrder,
     /// A section's contents do not match its size: they need more bytes, or bytes are left over.
     5 "SectionEnd" SectionEnd,
-    /// An integer has more bytes than its type allows, or its value does not fit the type.
+    /// An integer has more bytes than its type allows, or its value does not fit the type. Or the table index of a
+    /// `call_indirect` is not 0.
     6 "BadNumber" BadNumber,
     /// A name is not UTF-8. Its last byte decides.
     7 "BadUtf8" BadUtf8,
     /// This byte is not allowed here. One of these must come: `60` for a function type, a value type, a block type, the
-    /// element type `70`, a kind, a flag, or the `00` that ends some instructions.
+    /// element type `70`, a kind, a flag, or a `00` of some instructions.
     8 "BadByte" BadByte,
     /// The module uses a floating-point type or instruction, but the profile has none.
     9 "Float" Float,
-    /// No instruction of the profile begins with this byte.
+    /// No instruction of the profile begins with this byte. Or it follows `FC`, and no instruction of the profile has
+    /// it there.
     10 "BadOpcode" BadOpcode,
     /// The input ends inside the header or a section.
     11 "Truncated" Truncated,

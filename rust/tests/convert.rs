@@ -37,7 +37,7 @@ fn a_text_longer_than_the_first_room() {
 
 #[test]
 fn refusals_have_their_kind() {
-    let said = |error: wmod::Error| (error.kind(), error.why(), error.place());
+    let said = |error: wmod::Error| (error.kind(), error.why(), error.offset());
     assert_eq!(
         said(canon(b"\0asn").unwrap_err()),
         (ErrorKind::Module, Why::Magic, Some(4))
