@@ -73,7 +73,8 @@ fn run_of(rt: &impl Abort, text: &str) -> (u32, ValType) {
     (number_of(rt, count), type_of(rt, ty))
 }
 
-// Rows with unknown operands, at the floor and above it; then with parameters, locals and ifs; then with floats.
+// Rows with unknown operands, at the floor and above it; then with parameters, locals and ifs; then with floats; then
+// with instructions of later features.
 #[test]
 fn types_whole_bodies(rt: HostRuntime) {
     play(
@@ -93,7 +94,10 @@ f32 f64 -> f64 |: local.get 0, f64.promote_f32, local.get 1, f64.add, end = Ok(B
 -> f64 |: block f64, f64.const 1, end, end = Ok(BodyStats { moves: 8, operands: 1, controls: 2, probes: 0 })
 -> | 2*f32 1*f64: local.get 2, local.get 0, drop, drop, end = Ok(BodyStats { moves: 6, operands: 2, controls: 1, probes: 2 })
 f32 f32 -> f32 |: local.get 0, local.get 1, i32.const 0, select, end = Ok(BodyStats { moves: 10, operands: 3, controls: 1, probes: 0 })
-f64 -> i32 |: local.get 0, i64.trunc_f64_u, i32.wrap_i64, end = Ok(BodyStats { moves: 8, operands: 1, controls: 1, probes: 0 })",
+f64 -> i32 |: local.get 0, i64.trunc_f64_u, i32.wrap_i64, end = Ok(BodyStats { moves: 8, operands: 1, controls: 1, probes: 0 })
+f64 -> i64 |: local.get 0, i64.trunc_sat_f64_u, end = Ok(BodyStats { moves: 6, operands: 1, controls: 1, probes: 0 })
+-> |: i32.const 0, i32.const 1, i32.const 2, memory.copy, end = Ok(BodyStats { moves: 8, operands: 3, controls: 1, probes: 0 })
+-> |: i32.const 0, i32.const 1, i32.const 2, memory.fill, end = Ok(BodyStats { moves: 8, operands: 3, controls: 1, probes: 0 })",
     );
 }
 
@@ -117,7 +121,8 @@ fn before_and_after(rt: &impl Abort, alloc: Global, ops: &[Op]) -> String {
 
 // In rows five and six, the labels of a `br_table` differ: in the number of results, and in their type.
 // Errors of immediates come before errors of operands: indices, then immutable globals and alignments.
-// The last rows have one float where another is expected.
+// The rows before the last ones have instructions of later features. The last rows have one float where another is
+// expected.
 #[test]
 fn refuses_at_the_op_that_has_no_typing(rt: HostRuntime) {
     play(
@@ -144,6 +149,9 @@ f64.const 0, i64.eqz = (Err(BodyEnd), Err(Mismatch))
 f32.const 0, i32.eqz = (Err(BodyEnd), Err(Mismatch))
 i64.const 0, f64.neg = (Err(BodyEnd), Err(Mismatch))
 f64.const 0, f32.const 0, f64.add = (Err(BodyEnd), Err(Mismatch))
+i32.const 0, i32.const 0, i64.const 0, memory.copy = (Err(BodyEnd), Err(Mismatch))
+i32.const 0, i32.const 0, memory.fill = (Err(BodyEnd), Err(Arity))
+f32.const 0, i32.trunc_sat_f64_s = (Err(BodyEnd), Err(Mismatch))
 f32.const 0, f64.const 0, i32.const 0, select = (Err(BodyEnd), Err(Mismatch))
 block f32, block f64, unreachable, br_table 1, label 0, label 1 = (Err(BodyEnd), Err(Mismatch))
 f32.const 0, end = (Err(BodyEnd), Err(Mismatch))

@@ -7,7 +7,7 @@ use std::{env, io};
 use wm_command::arguments::{LineFault, Request};
 use wm_command::complaint::{complain, complain_of, explain_fault};
 use wm_command::execute::{System, execute};
-use wm_command::explain::{explain, help};
+use wm_command::explain::{explain, features, help};
 use wm_command::line::request;
 use wm_command::status::{Status, exit_code};
 
@@ -46,6 +46,7 @@ fn obey<R: Env + Files + Input + Print + Eprint + AllocGlobal>(
         Ok(Request::Run(line)) => Ok(execute(rt, &System(rt), &line)),
         Ok(Request::Explain(name)) => explain(rt, name),
         Ok(Request::Help) => help(rt),
+        Ok(Request::Features) => features(rt),
         Err(fault) => explain_fault(rt, words.as_slice(), fault),
     }
 }

@@ -11,8 +11,8 @@
 //! ```
 //!
 //! ACTION is `check`, `stats`, `canon` or `show`. OPTIONS are those of `wmod` without their dashes, in
-//! this order: `profile 2` (or 3, or 4), `limit N`, `max-functions N`, `max-locals N`, `max-open N` and
-//! `old-words`.
+//! this order: `profile 2` (or another one), `limit N`, `max-functions N`, `max-locals N`, `max-open N` and
+//! `old-words`. `profile 3+sign-ext` is `--profile 3 --features sign-ext`.
 //! BYTES are words: `H` is the header of a module, and any other is a byte in two hexadecimal digits.
 //! In a TEXT, `␊` means a line feed. PARTS are a text too, in which `3*a|b` means `aaab`.
 //! `read` instead of `build` allows a text with an invalid module.
@@ -25,7 +25,7 @@ use std::io;
 use std::io::ErrorKind;
 use wm_read::spellings::Spellings;
 use wm_rules::Policy;
-use wm_syntax::profile::Profile;
+use wm_syntax::profile::{Feature, Profile};
 
 pub const HEADER: [u8; 8] = *b"\0asm\x01\0\0\0";
 
@@ -104,16 +104,47 @@ fn action_of(line: &str) -> io::Result<(Action, &str)> {
     }
 }
 
+/// Returns the profile with this number, or `None` if there is none.
+fn profile_by(number: &str) -> Option<Profile> {
+    match number {
+        "1" => Some(Profile::ONE),
+        "2" => Some(Profile::TWO),
+        "3" => Some(Profile::THREE),
+        "4" => Some(Profile::FOUR),
+        _ => None,
+    }
+}
+
+/// Returns the feature with this word of `--features`, or `None` if there is none.
+fn feature_by(word: &str) -> Option<Feature> {
+    match word {
+        "sign-ext" => Some(Feature::SignExtension),
+        "call-indirect-overlong" => Some(Feature::LongIndex),
+        "nontrapping-fptoint" => Some(Feature::Saturation),
+        "bulk-memory-opt" => Some(Feature::Copies),
+        _ => None,
+    }
+}
+
+/// Returns the profile of a word: a number, and features that are added to it, each after a `+`.
+fn profile_of(word: &str) -> Option<Profile> {
+    let mut parts = word.split('+');
+    let mut profile = profile_by(parts.next()?)?;
+    for part in parts {
+        profile = profile.with(feature_by(part)?);
+    }
+    Some(profile)
+}
+
 /// Parses the profile, `ONE` if there is none, and returns it and the rest.
-fn profile(text: &str) -> (Profile, &str) {
+fn profile(text: &str) -> io::Result<(Profile, &str)> {
     let Some(rest) = text.strip_prefix("profile ") else {
-        return (Profile::ONE, text);
+        return Ok((Profile::ONE, text));
     };
-    match first_word(rest) {
-        ("2", rest) => (Profile::TWO, rest),
-        ("3", rest) => (Profile::THREE, rest),
-        ("4", rest) => (Profile::FOUR, rest),
-        _ => (Profile::ONE, text),
+    let (word, rest) = first_word(rest);
+    match profile_of(word) {
+        Some(profile) => Ok((profile, rest)),
+        None => Err(no_row()),
     }
 }
 
@@ -213,7 +244,7 @@ fn input(alloc: Global, action: Action, rest: &str) -> io::Result<Vec<u8>> {
 /// Parses a line. Fails with `InvalidData` if it is no row.
 pub fn read_row(alloc: Global, line: &str) -> io::Result<Row> {
     let (action, rest) = action_of(line)?;
-    let (profile, rest) = profile(rest);
+    let (profile, rest) = profile(rest)?;
     let (limit, rest) = limit(rest)?;
     let (policy, rest) = policy(rest)?;
     let (spellings, rest) = spellings(rest);

@@ -6,10 +6,10 @@ use std::alloc::Global;
 use std::process::Abort;
 use std::str::from_utf8;
 use wm_syntax::instructions::op_names::{name_of, op_named};
-use wm_syntax::instructions::opcodes::op_of;
-use wm_syntax::profile::Profile;
+use wm_syntax::instructions::opcodes::{op_behind, op_of};
+use wm_syntax::profile::{Feature, Profile};
 
-/// Returns the name of a byte, or what a keyword names under a profile.
+/// Returns the name of a code, or what a keyword names under a profile.
 #[derive(Drop)]
 struct Names;
 
@@ -17,14 +17,18 @@ impl Scripted for Names {
     fn answer<A: Abort>(&mut self, rt: &A, alloc: Global, call: &str) -> String {
         let (word, with) = word_of(call);
         match word {
-            "name_of" => named(rt, alloc, byte_of(rt, with)),
+            "name_of" => named(rt, alloc, code_of(rt, with)),
             _ => naming(rt, alloc, word, with),
         }
     }
 }
 
-fn named(rt: &impl Abort, alloc: Global, byte: u8) -> String {
-    let name = from_utf8(name_of(byte)).expect(rt, "text");
+fn code_of(rt: &impl Abort, digits: &str) -> u16 {
+    u16::from_str_radix(digits, 16).expect(rt, "a code")
+}
+
+fn named(rt: &impl Abort, alloc: Global, code: u16) -> String {
+    let name = from_utf8(name_of(code)).expect(rt, "text");
     shown(rt, alloc, name)
 }
 
@@ -49,6 +53,9 @@ name_of 44 = "f64.const"
 name_of 98 = "f32.copysign"
 name_of BF = "f64.reinterpret_i64"
 name_of FF = ""
+name_of 100 = "i32.trunc_sat_f32_s"
+name_of 10B = "memory.fill"
+name_of FC, name_of 108, name_of 10C, name_of FFFF = ""
 ONE block = With(Block)
 ONE unreachable = Plain(Simple(Unreachable))
 ONE i64.load32_u = With(Load(I64Load32U))
@@ -130,13 +137,21 @@ THREE f64.reinterpret_i64 = Plain(Simple(Numeric(Convert(F64ReinterpretI64))))"#
     );
 }
 
-// The name of each byte that begins an instruction names what the byte begins.
+// The name of each instruction names the instruction.
 #[test]
 fn names_lead_back(rt: HostRuntime) {
-    for byte in 0..=0xFF {
-        let name = name_of(byte);
+    let profile = Profile::FOUR
+        .with(Feature::Saturation)
+        .with(Feature::Copies);
+    for code in 0..0x200_u16 {
+        let name = name_of(code);
         if !name.is_empty() {
-            assert!(rt; op_named(Profile::FOUR, name) == op_of(Profile::FOUR, byte));
+            let class = if code < 0x100 {
+                op_of(profile, code as u8)
+            } else {
+                op_behind(profile, u32::from(code) - 0x100)
+            };
+            assert!(rt; op_named(profile, name) == class);
         }
     }
 }

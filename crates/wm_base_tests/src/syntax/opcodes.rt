@@ -1,14 +1,16 @@
-//! Tests of the table of first bytes.
+//! Tests of the table of codes.
 
 use crate::scripts::{Scripted, play_each, shown, type_of, unknown, word_of};
 use crate::syntax::scripts::{byte_of, profile_of};
 use std::alloc::Global;
 use std::process::Abort;
-use wm_syntax::instructions::opcodes::op_of;
+use wm_syntax::instructions::opcodes::{op_behind, op_of};
 use wm_syntax::instructions::{FloatType, IntType};
+use wm_syntax::profile::{Feature, Profile};
 use wm_syntax::types::ValType;
 
-/// Returns what a byte begins under a profile, the feature of a value type, or the value type of an operand type.
+/// Returns what a byte begins under a profile, what a number behind FC begins under one, the feature of a value type,
+/// or the value type of an operand type.
 #[derive(Drop)]
 struct Opcodes;
 
@@ -18,6 +20,7 @@ impl Scripted for Opcodes {
         match word {
             "feature" => shown(rt, alloc, type_of(rt, with).feature()),
             "ty" => shown(rt, alloc, ty_of(rt, with)),
+            "behind" => behind(rt, alloc, with),
             _ => begun(rt, alloc, word, with),
         }
     }
@@ -26,6 +29,19 @@ impl Scripted for Opcodes {
 fn begun(rt: &impl Abort, alloc: Global, profile: &str, byte: &str) -> String {
     let profile = profile_of(rt, profile);
     shown(rt, alloc, op_of(profile, byte_of(rt, byte)))
+}
+
+// What the first of two words, a feature, has behind FC at the number of the second.
+fn behind(rt: &impl Abort, alloc: Global, words: &str) -> String {
+    let (feature, number) = word_of(words);
+    let profile = match feature {
+        "none" => Profile::FOUR,
+        "saturation" => Profile::ONE.with(Feature::Saturation),
+        "copies" => Profile::ONE.with(Feature::Copies),
+        _ => unknown(rt, feature),
+    };
+    let number = u32::from_str_radix(number, 16).expect(rt, "a number");
+    shown(rt, alloc, op_behind(profile, number))
 }
 
 fn ty_of(rt: &impl Abort, word: &str) -> ValType {
@@ -66,6 +82,13 @@ ONE 43, TWO 43, ONE 8B, TWO 8B, ONE BF, TWO BF = Float
 THREE C4, THREE C5, FOUR C5 = None
 FOUR C4 = Plain(Simple(Numeric(SignExtend(I64From32))))
 FOUR 43 = With(F32Const)
+FOUR FC = None
+behind none 0, behind copies 0, behind saturation 8, behind saturation A = None
+behind none A, behind none B, behind copies 9, behind copies C, behind copies FFFFFFFF = None
+behind saturation 0 = Plain(Simple(Numeric(Saturate(I32TruncSatF32S))))
+behind saturation 7 = Plain(Simple(Numeric(Saturate(I64TruncSatF64U))))
+behind copies A = With(MemoryCopy)
+behind copies B = With(MemoryFill)
 FOUR 8B = Plain(Simple(Numeric(FloatUnary(F32, Abs))))
 THREE 2A = With(Load(F32Load))
 THREE 2B = With(Load(F64Load))

@@ -7,7 +7,7 @@ use std::process::Abort;
 use wm_syntax::instructions::op_class::{Immediates, OpClass};
 use wm_syntax::instructions::op_names::op_named;
 use wm_syntax::instructions::{LoadOp, MemArg, Op, Simple};
-use wm_syntax::profile::Profile;
+use wm_syntax::profile::{Feature, Profile};
 use wm_syntax::types::ValType;
 
 pub(crate) fn type_of(rt: &impl Abort, word: &str) -> ValType {
@@ -49,7 +49,10 @@ pub(crate) fn ops_of(rt: &impl Abort, alloc: Global, text: &str) -> Vec<Op> {
 /// Reads an op such as `br_table 1`.
 pub(crate) fn op_of(rt: &impl Abort, text: &str) -> Op {
     let (name, with) = word_of(text);
-    match op_named(Profile::THREE, name.as_bytes()) {
+    let profile = Profile::THREE
+        .with(Feature::Saturation)
+        .with(Feature::Copies);
+    match op_named(profile, name.as_bytes()) {
         OpClass::Plain(op) => op,
         OpClass::With(immediates) => op_with(rt, immediates, with),
         _ => label_of(rt, name, with),
@@ -72,6 +75,8 @@ fn op_with(rt: &impl Abort, immediates: Immediates, with: &str) -> Op {
         Immediates::F32Const => Op::Simple(Simple::F32Const(number_of(rt, with))),
         Immediates::F64Const => Op::Simple(Simple::F64Const(u64::from(number_of(rt, with)))),
         Immediates::Load(load) => load_of(rt, load, with),
+        Immediates::MemoryCopy => Op::Simple(Simple::MemoryCopy),
+        Immediates::MemoryFill => Op::Simple(Simple::MemoryFill),
         _ => op_with_index(rt, immediates, number_of(rt, with)),
     }
 }

@@ -21,6 +21,38 @@ read wmod build --old-words a.wat = Build ONE 4294967295 None None None Older So
 read wmod --old-words build --max-locals 0 = Build ONE 4294967295 None Some(0) None Older None None
 read wmod check --profile 3 = Check THREE 4294967295 None None None Standard None None
 read wmod show --profile 4 - = Show FOUR 4294967295 None None None Standard Some("-") None
+read wmod check --profile 1.0 = Check THREE 4294967295 None None None Standard None None
+read wmod check --features sign-ext = Check TWO 4294967295 None None None Standard None None
+read wmod stats --profile 1 --features=sign-ext a = Stats TWO 4294967295 None None None Standard Some("a") Some("a")
+read wmod --features sign-ext canon --profile 2 = Canon TWO 4294967295 None None None Standard None None
+read wmod show --features sign-ext --profile 3 = Show FOUR 4294967295 None None None Standard None None
+read wmod build --profile 1.0 --features sign-ext,sign-ext = Build FOUR 4294967295 None None None Standard None None
+read wmod check --profile 4 --features sign-ext,sign-ext,sign-ext a b = Check FOUR 4294967295 None None None Standard several ["a", "b"]
+read wmod check --features call-indirect-overlong = Check ONE+long 4294967295 None None None Standard None None
+read wmod show --profile 3 --features sign-ext,call-indirect-overlong = Show FOUR+long 4294967295 None None None Standard None None
+read wmod check --profile 4 --features nontrapping-fptoint = Check FOUR+saturation 4294967295 None None None Standard None None
+read wmod canon --features bulk-memory-opt,nontrapping-fptoint = Canon ONE+saturation+copies 4294967295 None None None Standard None None
+read wmod check --features call-indirect-overlong,sign-ext,call-indirect-overlong a = Check TWO+long 4294967295 None None None Standard Some("a") Some("a")
+read wmod check --features help = features
+read wmod --features=help build a b --profile 9 --from c -o d = features
+read wmod help --features help = help
+read wmod explain --features quux = explain None
+read wmod run --features help = words 2
+read wmod check --features sign-ext,help = words 2
+read wmod check --features help,sign-ext = words 2
+read wmod check --features HELP = words 2
+read wmod check --features "" = words 2
+read wmod check --features= = words 2
+read wmod check --features , = words 2
+read wmod check --features sign-ext, = words 2
+read wmod check --features ,sign-ext = words 2
+read wmod check --features sign-ext,,sign-ext = words 2
+read wmod check --features signext = words 2
+read wmod check --features Sign-ext = words 2
+read wmod check --features sign-ext,quux = words 2
+read wmod check --features sign-ext;sign-ext = words 2
+read wmod check --features sign-ext --features sign-ext = parser 2
+read wmod check --features = parser 2
 read wmod explain Index = explain Some("Index")
 read wmod --profile 3 explain --limit=7 = explain None
 read wmod help = help
@@ -40,6 +72,8 @@ read wmod check --profile 0 = words 2
 read wmod check --profile 5 = words 2
 read wmod check --profile 01 = words 2
 read wmod check --profile one = words 2
+read wmod check --profile 1. = words 2
+read wmod check --profile 2.0 = words 2
 read wmod check --profile "" = words 2
 read wmod check --profile +1 = words 2
 read wmod check --limit +7 = words 2
@@ -106,10 +140,17 @@ wrong wmod help build --limit x = 'x' is no limit: decimal digits, at most 46116
 wrong wmod explain run = none
 wrong wmod CHECK = 'CHECK' is no action: check, stats, canon, show, build, explain or help
 wrong wmod check --limit 0x10 = '0x10' is no limit: decimal digits, at most 4611686018427387904
-wrong wmod check --profile 5 = '5' is no profile: 1, 2, 3, 4
-wrong wmod check --profile "" = '' is no profile: 1, 2, 3, 4
+wrong wmod check --profile 5 = '5' is no profile: 1, 2, 3 or 1.0, 4
+wrong wmod check --profile "" = '' is no profile: 1, 2, 3 or 1.0, 4
 wrong wmod run --profile 5 --limit x --max-functions x --max-locals x --max-open x --old-words = 'run' is no action: check, stats, canon, show, build, explain or help
-wrong wmod check --profile 5 --limit x --max-functions x --max-locals x --max-open x --old-words = '5' is no profile: 1, 2, 3, 4
+wrong wmod check --profile 5 --limit x --max-functions x --max-locals x --max-open x --old-words = '5' is no profile: 1, 2, 3 or 1.0, 4
+wrong wmod check --features quux --limit x --old-words = 'quux' is no feature; wmod check --features help lists all
+wrong wmod check --features sign-ext,quux,b = 'quux' is no feature; wmod check --features help lists all
+wrong wmod check --features sign-ext,,quux = --features has an empty word: give words with commas between them, such as sign-ext
+wrong wmod check --features quux, --profile 7 = '7' is no profile: 1, 2, 3 or 1.0, 4
+wrong wmod check --features "" = --features has an empty word: give words with commas between them, such as sign-ext
+wrong wmod check --features sign-ext = none
+wrong wmod run --features quux = 'run' is no action: check, stats, canon, show, build, explain or help
 wrong wmod check --limit x --max-functions x --max-locals x --max-open x --old-words = 'x' is no limit: decimal digits, at most 4611686018427387904
 wrong wmod check --max-functions x --max-locals x --max-open x --old-words = 'x' is no number for --max-functions: decimal digits, at most 4294967295
 wrong wmod check --max-locals x --max-open x --old-words = 'x' is no number for --max-locals: decimal digits, at most 4294967295
@@ -144,7 +185,8 @@ const HELP: &str = "Checks and converts WebAssembly 1.0 modules, reading them on
     <ACTION>   check, stats, canon, show, build, explain or help\n  \
     [FILE]...  The file to read; standard input if FILE is missing or it is -. `check` and `stats` take several\n\n\
     Options:\n      \
-    --profile <N>        1, 2, 3 or 4: floats under 3 and 4, sign extension under 2 and 4 [default: 1]\n      \
+    --profile <N>        1, 2, 3 or 4: floats under 3 and 4, sign extension under 2 and 4; 1.0 is 3 [default: 1]\n      \
+    --features <LIST>    Words with commas between them: features to add to the profile; `help` lists all\n      \
     --limit <N>          The maximum length of the input in bytes [default: 4294967295]\n      \
     --max-functions <N>  The maximum number of functions, imported ones included [default: no limit]\n      \
     --max-locals <N>     The maximum number of locals a function declares [default: no limit]\n      \
@@ -169,6 +211,7 @@ const HELP: &str = "Checks and converts WebAssembly 1.0 modules, reading them on
     Examples:\n  \
     wmod check module.wasm\n  \
     wmod check --profile 3 with_floats.wasm\n  \
+    wmod check --profile 3 --features sign-ext later.wasm\n  \
     wmod stats --limit 1000000 < module.wasm\n  \
     wmod check first.wasm second.wasm\n  \
     find modules -name '*.wasm' -print0 | wmod check --from - --null\n  \

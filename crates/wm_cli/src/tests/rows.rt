@@ -2,7 +2,7 @@
 //!
 //! ```text
 //! read WORDS = ACTION PROFILE LIMIT FUNCTIONS LOCALS DEPTH SPELLINGS INPUTS OUTPUT QUIET, or `explain` and NAME, or
-//!     `help`, or the fault's kind and exit status. INPUTS is FILE and its path if there is one file at most. OUTPUT and
+//!     `help`, or `features`, or the fault's kind and exit status. INPUTS is FILE and its path if there is one file at most. OUTPUT and
 //!     QUIET are left out if the words name no output and are not quiet.
 //! wrong WORDS = the message for the first wrong word
 //! wmod WORDS < INPUT = the exit status, and the output
@@ -61,7 +61,7 @@ fn bytes_of(alloc: Global, words: &str) -> Result<Vec<u8>, Fail> {
     Ok(bytes)
 }
 
-// The constant that a profile is.
+// The constant that a profile is without the features of later standards.
 fn constant_of(profile: Profile) -> &'static str {
     match (
         profile.has(Feature::Floats),
@@ -72,6 +72,22 @@ fn constant_of(profile: Profile) -> &'static str {
         (true, false) => "THREE",
         (true, true) => "FOUR",
     }
+}
+
+// The word, if the profile has the feature.
+fn word_of(profile: Profile, feature: Feature, word: &'static str) -> &'static str {
+    if profile.has(feature) { word } else { "" }
+}
+
+/// Tells a profile: a constant, and the features that are added to it.
+fn tell_profile(alloc: Global, profile: Profile) -> Result<String, Fail> {
+    Ok(format!(in alloc;
+        "{}{}{}{}",
+        constant_of(profile),
+        word_of(profile, Feature::LongIndex, "+long"),
+        word_of(profile, Feature::Saturation, "+saturation"),
+        word_of(profile, Feature::Copies, "+copies")
+    )?)
 }
 
 fn tell_inputs(alloc: Global, inputs: &Inputs<'_>) -> Result<String, Fail> {
@@ -108,7 +124,7 @@ fn tell_line(alloc: Global, line: &Line<'_>) -> Result<String, Fail> {
     } = policy;
     Ok(format!(in alloc;
         "{action:?} {} {limit} {functions:?} {locals:?} {depth:?} {spellings:?} {}{}",
-        constant_of(*profile),
+        tell_profile(alloc, *profile)?,
         tell_inputs(alloc, inputs)?,
         tell_rest(alloc, line)?
     )?)
@@ -129,6 +145,7 @@ fn read(alloc: Global, command: &str) -> Result<String, Fail> {
         Ok(Request::Run(line)) => tell_line(alloc, &line),
         Ok(Request::Explain(name)) => Ok(format!(in alloc; "explain {name:?}")?),
         Ok(Request::Help) => Ok(format!(in alloc; "help")?),
+        Ok(Request::Features) => Ok(format!(in alloc; "features")?),
         Err(fault) => tell_fault(alloc, &fault),
     }
 }
@@ -137,7 +154,7 @@ fn read(alloc: Global, command: &str) -> Result<String, Fail> {
 fn line_of<'a>(alloc: Global, words: &'a [&'a str]) -> Result<Line<'a>, Fail> {
     match request(alloc, words)? {
         Request::Run(line) => Ok(line),
-        Request::Explain(_) | Request::Help => Err(Fail::new("no line")),
+        Request::Explain(_) | Request::Help | Request::Features => Err(Fail::new("no line")),
     }
 }
 
@@ -207,7 +224,9 @@ pub fn obey(alloc: Global, command: &str, input: &[u8]) -> Result<String, Fail> 
     let words = words_of(alloc, command)?;
     let line = match request(alloc, words.as_slice()) {
         Ok(Request::Run(line)) => line,
-        Ok(Request::Explain(_) | Request::Help) => return Err(Fail::new("no line")),
+        Ok(Request::Explain(_) | Request::Help | Request::Features) => {
+            return Err(Fail::new("no line"));
+        }
         Err(fault) => return tell_fault(alloc, &fault),
     };
     let told = obey_line(alloc, &line, input)?;
