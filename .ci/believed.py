@@ -42,6 +42,10 @@ OPAQUE = {
     # It relates a validator to the bytes that it has read. Clauses of `new` and `feed` say when it holds, and those of
     # `finish` what follows from it.
     "wm_rules.specs.inner.Validators.HasRead": ["wm_c/specs/Sessions.antt"],
+    # It gives the section that the byte after some bytes lies in, and the part of the format there. The section is
+    # proved, by the law `places_are_in_their_sections` of wm_decode. The profile and the bytes alone determine the
+    # part, and its meaning is tested.
+    "wm_decode.specs.inner.Places.spot_after": ["wm_c/specs/Places.antt"],
     # It relates the state of a checker to the bytes, which alone determine it. The bounds beside it (at_most, heights,
     # moves) are functions of the bytes alone.
     "wm_rules.specs.inner.Validators.TellsChecker": ["wm_rules/specs/Validating.antt"],

@@ -39,7 +39,7 @@ MODULES = 1000
 STACK = 64
 # the rows of calls, and their least number, so that no row is lost by accident
 ROWS = os.path.join(HERE, "c_rows.txt")
-LEAST = 117
+LEAST = 245
 # the inputs that c_rows.txt names: a function that adds two numbers, one that extends a byte, a text with a keyword of
 # older tools, and a text whose module is not valid
 INPUTS = {

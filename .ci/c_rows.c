@@ -9,6 +9,7 @@
  *   canon, show or build: ROOM OPTIONS INPUT              the status, the four fields of the output, and the buffer
  *   name NUMBER ROOM                                      the length and the buffer, with `0` for its end
  *   explain NUMBER ROOM                                   the same, with `|` for a line feed
+ *   place                                                 the status and the five fields of the place, with `-` for none
  *   version                                               the version of the library
  *
  * OPTIONS are all seven options, with `-` for no limit. INPUT is in hexadecimal digits: `H` is the header, and `.` is
@@ -157,11 +158,17 @@ static void words_of(size_t (*call)(uint32_t, char *, size_t)) {
   for (i = 0; i < room; i++) putchar(out[i] == '\n' ? '|' : out[i] ? out[i] : '0');
 }
 
+static void say_field(uint32_t field) {
+  if (field == WMOD_NONE) printf(" -");
+  else printf(" %lu", (unsigned long)field);
+}
+
 /* Makes a call on the handle. */
 static void piecewise(wmod_validator *v, const char *name) {
   uint8_t bytes[LINE];
   wmod_options options;
   wmod_answer answer;
+  struct wmod_place place;
   uint32_t profile, ended;
   size_t length;
   if (strcmp(name, "begin") == 0) {
@@ -176,6 +183,14 @@ static void piecewise(wmod_validator *v, const char *name) {
   } else if (strcmp(name, "finish") == 0) {
     ended = wmod_finish(v, &answer);
     say_answer(ended, &answer);
+  } else if (strcmp(name, "place") == 0) {
+    ended = wmod_place(v, &place);
+    printf("%lu:", (unsigned long)ended);
+    say_field(place.section);
+    say_field(place.item);
+    say_field(place.index);
+    say_field(place.awaits);
+    say_field(place.byte);
   } else if (strcmp(name, "end") == 0) {
     wmod_end(v);
     say(0);

@@ -48,6 +48,14 @@ MODULES = {
 TEXT = r'(module (memory $mem0 1) (data $mem0 (offset i32.const 0) "\00\u{e9}\""))'
 OLDER = "(module (type (func)) (memory 1) (func (type 0) (local i32) current_memory set_local 0))"
 
+# modules of one feature each, by its word: a call_indirect whose table index has five bytes, a truncation that saturates,
+# memory.fill and memory.copy
+OF_FEATURES = {
+    "call-indirect-overlong": f"{NONE} 04 04 01 70 00 01 0A 0D 01 0B 00 41 00 11 00 80 80 80 80 00 0B",
+    "nontrapping-fptoint": f"{NONE} 0A 0C 01 0A 00 43 00 00 00 00 FC 00 1A 0B",
+    "bulk-memory-opt": f"{NONE} 05 03 01 00 01 0A 18 01 16 00 41 00 41 00 41 00 41 00 41 00 41 00 FC 8B 00 00 FC 0A 00 00 0B",
+}
+
 # the bytes of one read (PIECE of wm_rules), a custom section with a name, and its offsets at which a piece's end cuts
 # the name
 PIECE, NAMED, CUTS = 4096, "00 04 03 61 62 63", (4, 5)
@@ -57,11 +65,11 @@ MOST_KEPT = 1024
 NOP, BLOCK, END = b"\x01", b"\x02\x40", b"\x0b"
 
 # the rows for wm_rows, which also cuts each input in two at every offset
-ROWS = f"""canon {MODULES['a long number'].replace(HEAD, 'H')}
-show {MODULES['an if with a result'].replace(HEAD, 'H')}
-stats {MODULES['data'].replace(HEAD, 'H')}
-build {TEXT}
-"""
+ROWS = "\n".join(
+    [f"{action} {MODULES[name].replace(HEAD, 'H')}" for action, name in (("canon", "a long number"), ("show", "an if with a result"), ("stats", "data"))]
+    + [f"canon profile 3+{word} {words.replace(HEAD, 'H')}" for word, words in OF_FEATURES.items()]
+    + [f"build {TEXT}\n"]
+)
 
 
 def bytes_of(words):
@@ -84,7 +92,10 @@ def runs_of(program):
     module = bytes_of(MODULES["an if"])
     yield ["show", "--max-functions", "9", "--max-locals", "9", "--max-open", "0"], module
     yield ["check", "--profile", "2", "--limit", "20"], module
-    for words in (["--help"], ["--version"], ["explain", "Index"], ["explain", "Indx"], ["chek"], ["check", "--limit", "x"], ["check", "--lmit", "1"], ["check", "--quux"], [], ["help"], ["explain"], ["check", "/none"]):
+    for word, words in OF_FEATURES.items():
+        for action in ("check", "stats", "canon", "show"):
+            yield [action, "--profile", "3", "--features", word], bytes_of(words)
+    for words in (["--help"], ["--version"], ["explain", "Index"], ["explain", "Indx"], ["chek"], ["check", "--limit", "x"], ["check", "--features", "help"], ["check", "--features", "sign-ext"], ["check", "--features", "signext"], ["check", "--lmit", "1"], ["check", "--quux"], [], ["help"], ["explain"], ["check", "/none"]):
         yield words, b""
 
 

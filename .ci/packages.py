@@ -38,13 +38,17 @@ COMPLETED = {
     ("build", "--o"): "--old-words --output",
     ("canon", "--o"): "--output",
     ("check", "--o"): "",
-    ("check", "--f"): "--from",
+    ("check", "--f"): "--features --from",
     ("stats", "--n"): "--null",
     ("show", "--n"): "",
     ("check", "--from", ""): "",
     ("canon", "-o", ""): "",
     ("check", "--profile", ""): "1 2 3 4",
     ("check", "--profile", "=", ""): "1 2 3 4",
+    ("check", "--features", ""): "sign-ext call-indirect-overlong nontrapping-fptoint bulk-memory-opt help",
+    ("check", "--features", "=", "s"): "sign-ext",
+    ("check", "--features", "sign-ext,"): "",
+    ("build", "--f"): "--features",
     ("check", "--limit", ""): "",
     ("explain", "Sta"): "StartType",
     ("--profile", "3", "explain", "F"): "Float",
@@ -171,7 +175,7 @@ def check_samples(it, made):
 
 
 def check_explained(it, made):
-    """Checks that the sample explain.c prints the line of wmod and the sentences of `wmod explain`."""
+    """Checks that the sample explain.c prints the line of wmod, a place, and the sentences of `wmod explain`."""
     for number in range(MODULES):
         module, _ = c_calls.made(number)
         status, line = run(it.program, "check", "-", given=module, wanted=None)
@@ -183,7 +187,10 @@ def check_explained(it, made):
         for key, sample in made.items():
             if key[0] == EXPLAINS:
                 found, said = run(sample, given=module, wanted=None)
-                same(f"{key} of module {number}", (found, said.splitlines(True)), (status, wanted))
+                lines = said.splitlines(True)
+                place = lines.pop(1) if len(lines) == 4 else ""
+                same(f"{key} of module {number}", (found, lines), (status, wanted))
+                same(f"the place by {key} of module {number}", bool(re.fullmatch(r"in section \d+(, member \d+)?\n|", place)), True)
 
 
 def check_stops(sample):

@@ -126,7 +126,12 @@ TRIALS_OF_REFUSALS = {
     "another sentence": (TABLE, r"One of the first", "None of the first", f"not in both {PAGE} and {TABLE}"),
     "another order": (TABLE, r'(OF_MODULES: &str = "\\\n)((?:.*\n)*?.*\\n\\\n)((?:.*\n)*?.*\\n\\\n)', r"\1\3\2", f"not in both {PAGE} and {TABLE}, or in another order"),
     "another line of a later feature": (refusals.HINTS, r"a tail call", "no tail call", f"not in both {refusals.LIMITS} and {refusals.HINTS}"),
-    "a later feature that is not tested": (refusals.DETAILS, r": a tail call \(", ": a call (", f"no row in {refusals.DETAILS}: a tail call (tail-call)"),
+    "a later feature that is not tested": (refusals.DETAILS, r": a tail call \(", ": a call (", f"fewer than 1 rows in {refusals.DETAILS}: a tail call (tail-call)"),
+    "another word of --features": (refusals.COMMAND, r"\| `sign-ext` \|", "| `sign` |", f"other words of --features in {refusals.COMMAND} than in"),
+    "another sentence of a feature": (refusals.HEADER, r"sign-ext: the five", "sign-ext: the six", f"other words of --features in {refusals.HEADER} than in"),
+    "a feature under another name": (refusals.HEADER, r"WMOD_SIGN_EXT 0x", "WMOD_SIGN 0x", f"other words of --features in {refusals.HEADER} than in"),
+    "a feature that the crate lacks": (refusals.OPTIONS, r"/// `sign-ext`: ", "/// ", f"other words of --features in {refusals.OPTIONS} than in"),
+    "no row of features": (refusals.FEATURES, r"=> \[(\w+)\]", r"=> \1", f"{refusals.FEATURES} has no row"),
     "another sentence of the crate": (refusals.CRATE, r"/// One of the first", "/// None of the first", f"another sentence in {refusals.CRATE} than in {TABLE}: Magic"),
     "another number of the crate": (refusals.CRATE, r'1 "Magic"', '7 "Magic"', f"not in both {refusals.HEADER} and {refusals.CRATE}: 7 Magic Magic"),
     "a sentence of the crate for no input": (refusals.CRATE, r"/// Memory was refused", "/// Memory was there", f"another sentence in {refusals.CRATE} than in {TABLE}: Memory"),
@@ -265,7 +270,7 @@ def trials_of_definitions(room):
 
 
 def trials_of_refusals(room):
-    top = copied(room, "refusals", PAGE, ROWS, TABLE, refusals.LIMITS, refusals.HINTS, refusals.DETAILS, refusals.WORDS, refusals.TEXT_WORDS, refusals.HEADER, refusals.CRATE)
+    top = copied(room, "refusals", PAGE, ROWS, TABLE, refusals.LIMITS, refusals.HINTS, refusals.DETAILS, refusals.WORDS, refusals.TEXT_WORDS, refusals.HEADER, refusals.CRATE, refusals.FEATURES, refusals.COMMAND, refusals.OPTIONS)
     yield from played("refusals.py", refusals.faults_of, top, TRIALS_OF_REFUSALS)
 
 
