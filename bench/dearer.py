@@ -4,6 +4,7 @@
     dearer.py OLD NEW              all rows
     dearer.py OLD NEW WORD..       only rows whose name contains one of the words
     dearer.py OLD NEW --shapes     each action on 1 MB of each shape of make_module.py
+    dearer.py NEW --later          instructions of later features against instructions of 1.0 of the same shape
 
 It runs crates/wm_cli/out/wm_cli of each checkout; `rt run` in crates/wm_cli builds it. For each row it prints the
 instructions of OLD and of NEW in millions, without those of an empty input, and the ratio NEW over OLD. The last column
@@ -11,6 +12,9 @@ has the ratio on a second input of another size and order. The script ends with 
 
 The rows are inputs that once got slower when others got faster: ops without a fast path, pieces of one byte or two,
 lists of short indices after a longer one, empty bodies, unreachable code, texts of one kind of token, refused texts.
+
+A row of `--later` has the instructions of wmod for each byte of two inputs, of the later instruction and of the one of
+1.0, and their ratio.
 """
 import pathlib
 import re
@@ -182,6 +186,18 @@ ROWS = {
 }
 
 
+ZERO_64, ZERO_32, THREE, TABLE = b"\x44" + bytes(8), b"\x43" + bytes(4), b"\x41\x00" * 3, section(4, vector([b"\x70\x00\x01"]))
+# the later instruction and its code, and the instruction of 1.0 and its code; a memory or a table that both need
+LATER = {
+    "i32.trunc_sat_f64_s": (ZERO_64 + b"\xfc\x02\x1a", "i32.trunc_f64_s", ZERO_64 + b"\xaa\x1a", b""),
+    "i64.trunc_sat_f32_u": (ZERO_32 + b"\xfc\x05\x1a", "i64.trunc_f32_u", ZERO_32 + b"\xaf\x1a", b""),
+    "memory.fill": (THREE + b"\xfc\x0b\x00", "select and drop", THREE + b"\x1b\x1a", MEMORY),
+    "memory.copy": (THREE + b"\xfc\x0a\x00\x00", "select and drop", THREE + b"\x1b\x1a", MEMORY),
+    "call_indirect, long index": (b"\x41\x00\x11\x00" + b"\x80" * 4 + b"\x00", "call_indirect", b"\x41\x00\x11\x00\x00", TABLE),
+}
+WITH_LATER = ["--profile", "4", "--features", "call-indirect-overlong,nontrapping-fptoint,bulk-memory-opt"]
+
+
 def fed(program, words, given, piece):
     """Runs the program below callgrind. Returns the number of instructions, and the status and outputs."""
     with tempfile.TemporaryFile() as file:
@@ -256,9 +272,28 @@ def print_shapes(programs):
             print(f"| {shape} | {' | '.join(found)} |", flush=True)
 
 
+def a_byte(program, one, memory):
+    """Returns the instructions of wmod for each byte of a module of this code."""
+    given = code(LOCAL, one, memory)(Numbers(1))
+    whole, nothing = (fed(program, ["check", *WITH_LATER], it, 0) for it in (given, HEADER))
+    if whole[1][0]:
+        sys.exit(f"refused: {whole[1]}")
+    return (whole[0] - nothing[0]) / len(given)
+
+
+def print_later(program):
+    print("| Instruction | A byte | Instruction of 1.0 | A byte | Ratio |\n|---|---|---|---|---|", flush=True)
+    for name, (one, older, other, memory) in LATER.items():
+        new, old = a_byte(program, one, memory), a_byte(program, other, memory)
+        print(f"| {name} | {new:.2f} | {older} | {old:.2f} | {new / old:.2f} |", flush=True)
+
+
 def main():
     if len(sys.argv) < 3:
         sys.exit(__doc__)
+    if sys.argv[2] == "--later":
+        print_later(pathlib.Path(sys.argv[1]).resolve() / "crates/wm_cli/out/wm_cli")
+        return
     programs = [pathlib.Path(top).resolve() / "crates/wm_cli/out/wm_cli" for top in sys.argv[1:3]]
     if sys.argv[3:] == ["--shapes"]:
         print_shapes(programs)

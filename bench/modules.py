@@ -1,7 +1,10 @@
 #!/usr/bin/env python3
 """Compares `wmod check --profile 3` with node on small modules with floats.
 
-    modules.py [COUNT [SEED]] [--program=PATH]      10,000 modules and seed 1 by default
+    modules.py [COUNT [SEED]] [--program=PATH] [--features=LIST]      10,000 modules and seed 1 by default
+
+LIST goes to `wmod check --features`. With `call-indirect-overlong` in it, table indices have up to five bytes. With
+`nontrapping-fptoint` or `bulk-memory-opt` in it, the modules have the instructions of that feature.
 
 Equal seeds give equal modules. One third is valid: each instruction fits the types of the operands on the stack, also
 in unreachable code. In another third one instruction is dropped, doubled, swapped with the next one or replaced. In the
@@ -38,6 +41,13 @@ for (let at = 0; at < all.length; at += 4 + all.readUInt32LE(at)) {
 console.log(JSON.stringify(told));
 """
 
+FEATURES = [word.removeprefix("--features=") for word in sys.argv if word.startswith("--features=")]
+WORDS = ",".join(FEATURES).split(",")
+# the most bytes of a table index in a call_indirect
+LONGEST = 5 if "call-indirect-overlong" in WORDS else 1
+# the most bytes of a number behind FC
+WIDEST = 3
+
 # Types are letters: i and j are i32 and i64, f and d are f32 and f64.
 TYPES = {"i": b"\x7f", "j": b"\x7e", "f": b"\x7d", "d": b"\x7c"}
 # Numeric instructions: the first opcode, the number of opcodes, and the types that each pops and pushes.
@@ -49,6 +59,8 @@ NUMERICS = [
     for first, count, takes, gives in map(str.split, RUNS.split(", "))
     for i in range(int(count))
 ]
+# The saturating truncations, by the number behind FC: the types that each pops and pushes.
+SATURATIONS = "f i, f i, d i, d i, f j, f j, d j, d j".split(", ")
 # Loads from opcode 28 on, and stores from 36 on: the type of the value, and the greatest alignment.
 LOADS = "i2 j3 f2 d3 i0 i0 i1 i1 j0 j0 j1 j1 j2 j2".split()
 STORES = "i2 j3 f2 d3 i0 i1 j0 j1 j2".split()
@@ -142,6 +154,16 @@ class Body:
         fitting = [row for row in NUMERICS if self.there(row[1])]
         self.put(*self.numbers.one_of(self.numbers.one_of([fitting, fitting, NUMERICS]) or NUMERICS))
 
+    def behind(self, number, rest, takes, gives):
+        self.put(b"\xfc" + unsigned(number, self.numbers.below(WIDEST) + 1) + rest, takes, gives)
+
+    def saturation(self):
+        number = self.numbers.below(len(SATURATIONS))
+        self.behind(number, b"", *SATURATIONS[number].split())
+
+    def copy_or_fill(self):
+        self.behind(*self.numbers.one_of([(10, bytes(2)), (11, bytes(1))]), "iii", "")
+
     def memory_argument(self, most):
         return unsigned(self.numbers.below(most + 1)) + unsigned(self.numbers.below(1 << self.numbers.below(31)))
 
@@ -182,7 +204,8 @@ class Body:
     def call_indirect(self):
         x = self.numbers.below(len(self.around.types))
         takes, gives = self.around.types[x]
-        self.put(b"\x11" + unsigned(x) + b"\x00", takes + "i", gives)
+        table = unsigned(0, self.numbers.below(LONGEST + 1)) if LONGEST > 1 else b"\x00"
+        self.put(b"\x11" + unsigned(x) + table, takes + "i", gives)
 
     def branch(self):
         label = self.numbers.one_of(self.frames).label
@@ -203,6 +226,8 @@ class Body:
 STEPS = [Body.numeric] * 24 + [Body.load, Body.store, Body.local, Body.select, Body.branch] * 2
 STEPS += [Body.open] * 3 + [Body.close_inner] * 2 + [Body.other_branch, Body.global_set, Body.drop, Body.small]
 STEPS += [Body.call, Body.call_indirect, Body.stop]
+STEPS += [Body.saturation] * 4 if "nontrapping-fptoint" in WORDS else []
+STEPS += [Body.copy_or_fill] * 2 if "bulk-memory-opt" in WORDS else []
 
 
 def valid(numbers):
@@ -275,7 +300,7 @@ def modules(count, seed):
 # its offset.
 STRICTER = {
     "sign extension": r"BadOpcode .*c[0-4]$",
-    "non-trapping conversion, or bulk memory": r"BadOpcode .*fc$",
+    "non-trapping conversion, or bulk memory": r"BadOpcode .*fc( [89a-f]\w)*( \w\w)?$",
     "vectors or atomics": r"BadOpcode .*f[de]$",
     "exceptions or tail calls": r"BadOpcode .*(0[6-9]|1[2389])$|^(2|7) BadByte .*04$|^13 SectionId ",
     "reference types": r"BadOpcode .*(1c|2[56]|d[0-2])$|BadByte .*(6f|70)$|^[24] Second ",
@@ -283,7 +308,7 @@ STRICTER = {
     "several values": r"^1 Arity |^10 BadByte .*0[2-4] \w\w$",
     "shared memory": r"^[25] BadByte .*03$",
     "later form of a segment": r"^(9|11) Index .*0[1-7]$|^12 SectionId ",
-    "index of a call_indirect's table": r"^10 BadByte .*11 \w\w \w\w$",
+    "index of a call_indirect's table": r"^10 Bad(Byte|Number) .*11 \w\w( 80)* \w\w$",
     "labels of a br_table in unreachable code": r"^10 Type .*br_table$",
 }
 # Why node refuses a module that wmod accepts, by the message of node.
@@ -320,7 +345,7 @@ def found(classes, words):
 
 def checked(program, whole):
     """Returns the output of wmod, or "" if it accepts."""
-    done = subprocess.run([program, "check", "--profile", "3", "-"], input=whole, stdout=subprocess.PIPE, check=False)
+    done = subprocess.run([program, "check", "--profile", "3", *(f"--features={it}" for it in FEATURES), "-"], input=whole, stdout=subprocess.PIPE, stderr=subprocess.DEVNULL, check=False)
     line = done.stdout.decode("utf8", "replace").strip()
     return "" if done.returncode == 0 else line or f"status {done.returncode}"
 
@@ -332,7 +357,7 @@ def judged(right, whole, own, other):
     if own and other:
         return "BOTH REFUSE WHAT IS VALID" if right else "both refuse"
     if own:
-        return f"wmod alone refuses: {found(STRICTER, refusal(whole, own))}"
+        return "WMOD ALONE REFUSES WHAT IS VALID" if right else f"wmod alone refuses: {found(STRICTER, refusal(whole, own))}"
     return f"node alone refuses: {found(LAXER, other)}" if other else "both accept"
 
 

@@ -4,9 +4,9 @@
     bench/tables.py            names the tables that are wrong; status 1 if there are any
     bench/tables.py --write    writes the tables that are wrong; run `rt fmt` in the two crates after it
 
-Both follow from the rows of table.rt. `BY_NAME` of wm_syntax has the opcodes in the order of their names; a proof
-also covers that order. `GUESSES` of wm_bodies has each opcode at the index that `long_guess` gives its name; a wrong
-guess only costs time.
+Both follow from the rows of table.rt. `BY_NAME` of wm_syntax has the codes in the order of their names; a proof
+also covers that order. `GUESSES` of wm_bodies has each code of one byte at the index that `long_guess` gives its name;
+a wrong guess only costs time.
 """
 import pathlib
 import re
@@ -21,9 +21,9 @@ PREFERRED = b"memory.size"
 
 
 def names():
-    """Returns the names of instructions, by opcode."""
-    rows = re.findall(r'0x([0-9A-F]{2}) => b"([^"]+)",', ROWS.read_text(encoding="utf-8"))
-    return {int(byte, 16): name.encode() for byte, name in rows}
+    """Returns the names of instructions, by code."""
+    rows = re.findall(r'0x([0-9A-F]+) => b"([^"]+)",', ROWS.read_text(encoding="utf-8"))
+    return {int(code, 16): name.encode() for code, name in rows}
 
 
 def by_name(named):
@@ -41,20 +41,20 @@ def weights(source):
 def guesses(named, source):
     parts, (modulus, by), size = weights(source)
     table = [0] * size
-    for byte, name in sorted(named.items(), key=lambda it: it[1] == PREFERRED):
-        if len(name) >= 5:
+    for code, name in sorted(named.items(), key=lambda it: it[1] == PREFERRED):
+        if code < 0x100 and len(name) >= 5:
             total = sum(name[int(place)] * weight for place, weight in parts) + len(name) % modulus * by
-            table[total % size] = byte
+            table[total % size] = code
     return table
 
 
 def stated(source, name):
-    return [int(it, 16) for it in re.findall(r"0x([0-9A-F]{2})", re.search(rf"{name}: \[u8; \d+\] = \[(.*?)\];", source, re.S)[1])]
+    return [int(it, 16) for it in re.findall(r"0x([0-9A-F]+)", re.search(rf"{name}: \[u(?:8|16); \d+\] = \[(.*?)\];", source, re.S)[1])]
 
 
 def with_table(source, name, table):
-    rows = ", ".join(f"0x{byte:02X}" for byte in table)
-    return re.sub(rf"({name}: \[u8; )\d+(\] = \[).*?\];", lambda it: f"{it[1]}{len(table)}{it[2]}{rows}];", source, flags=re.S)
+    rows = ", ".join(f"0x{code:02X}" for code in table)
+    return re.sub(rf"({name}: \[u(?:8|16); )\d+(\] = \[).*?\];", lambda it: f"{it[1]}{len(table)}{it[2]}{rows}];", source, flags=re.S)
 
 
 def main():
