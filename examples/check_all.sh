@@ -5,8 +5,7 @@
 #   examples/check_all.sh FOLDER
 [ -d "$1" ] || { echo "no folder: $1" >&2; exit 2; }
 find "$1" -name '*.wasm' -print0 | xargs -0 -r -n 64 -P "$(nproc)" sh -c '
-  status=0
-  for file do
-    said=$(wmod check --limit 100000000 "$file") || { echo "$file: ${said:-no answer}"; status=1; }
-  done
+  said=$(printf "%s\0" "$@" | wmod check --limit 100000000 --from - --null)
+  status=$?
+  printf "%s\n" "$said" | grep --line-buffered -v -e ": valid$" -e "^$"
   exit $status' sh

@@ -88,7 +88,7 @@ def libraries(folder, archive):
 def written(program, prefix):
     """Returns the generated files: their texts by their paths."""
     here, version = TOP / "packaging", version_of(program)
-    said = texts.read_help(run(program, "--help"), names())
+    said = texts.read_help(run(program, "--help"), names(), run(program, "check", "--features", "help"))
     man, described = [(here / it).read_text(encoding="utf-8") for it in ("wmod.1.in", "wmod.pc.in")]
     made = {it: make(said) for it, make in COMPLETIONS.items()}
     made["share/man/man1/wmod.1"] = texts.man(man, said, version)

@@ -1,5 +1,5 @@
-"""Makes the manual page and the completions of bash, zsh and fish from `wmod --help` and the NAMEs of `wmod explain`. A line of the help
-that it cannot parse is an error, so that no option is lost when the help changes.
+"""Makes the manual page and the completions of bash, zsh and fish from `wmod --help`, the words of `wmod check --features help` and the
+NAMEs of `wmod explain`. A line of the help or of the words that it cannot parse is an error, so that none is lost when they change.
 """
 import collections
 import re
@@ -10,32 +10,41 @@ OPTION = re.compile(r" {2,6}(?:-(?P<short>\w), )?--(?P<name>[\w-]+)(?: <(?P<valu
 # The help text of an option that lists its values, such as `1, 2 or 3: ..`, and of one that only some actions take.
 VALUES = re.compile(r"\d+(?:, \d+)* or \d+\b")
 ONLY = re.compile(r"With (`\w+`(?:(?:, | or )`\w+`)*): ")
+# A line of the words of `--features`.
+FEATURE = re.compile(r"(?P<word>[\w-]+) {2,}(?P<says>.+)")
 # the value of an option that names a file
 FILE = "FILE"
+# the option whose values are words of their own, and the value that lists them
+FEATURES, LISTS = "features", "help"
 
 Action = collections.namedtuple("Action", "name says")
 Option = collections.namedtuple("Option", "short name value says values only")
-Help = collections.namedtuple("Help", "about actions options names")
+Feature = collections.namedtuple("Feature", "word says")
+Help = collections.namedtuple("Help", "about actions options names features")
 
 
-def read_help(text, names):
-    """Parses the help: the first paragraph, the actions and the options. `names` are the NAMEs of `wmod explain`."""
+def read_help(text, names, words):
+    """Parses the help: the first paragraph, the actions and the options. `names` are the NAMEs of `wmod explain`, and
+    `words` is the output of `wmod check --features help`."""
     about, actions, _ = text.split("\n\n", 2)
     options = re.search(r"(?ms)^Options:\n(.*?)\n\n", text)[1]
     actions = [Action(**each(ACTION, line)) for line in actions.split("\n")]
-    return Help(about, actions, [option(**each(OPTION, line)) for line in options.split("\n")], names)
+    features = [Feature(**each(FEATURE, line)) for line in words.splitlines()]
+    options = [option(features, **each(OPTION, line)) for line in options.split("\n")]
+    return Help(about, actions, options, names, features)
 
 
 def each(form, line):
     found = form.fullmatch(line)
     if not found:
-        raise SystemExit(f"texts.py: this line of `wmod --help` is not understood: {line}")
+        raise SystemExit(f"texts.py: this line of the help or of the features is not understood: {line}")
     return found.groupdict()
 
 
-def option(short, name, value, says):
+def option(features, short, name, value, says):
     values, only = VALUES.match(says), ONLY.match(says)
-    return Option(short, name, value, says, re.findall(r"\d+", values[0]) if values else (), re.findall(r"\w+", only[1]) if only else ())
+    values = re.findall(r"\d+", values[0]) if values else [*(it.word for it in features), LISTS] if name == FEATURES else ()
+    return Option(short, name, value, says, values, re.findall(r"\w+", only[1]) if only else ())
 
 
 def filled(template, texts):
@@ -56,7 +65,8 @@ def man(template, said, version):
         short = rf"\fB\-{it.short}\fR, " if it.short else ""
         value = rf" \fI{it.value}\fR" if it.value else ""
         options.append(f".TP\n{short}\\fB\\-\\-{troff(it.name)}\\fR{value}\n{troff(it.says)}")
-    texts = {"VERSION": version, "ABOUT": troff(said.about), "ACTIONS": "\n".join(actions), "OPTIONS": "\n".join(options)}
+    features = [f".TP\n.B {troff(it.word)}\n{troff(it.says)}" for it in said.features]
+    texts = {"VERSION": version, "ABOUT": troff(said.about), "ACTIONS": "\n".join(actions), "OPTIONS": "\n".join(options), "FEATURES": "\n".join(features)}
     return filled(template, texts)
 
 
