@@ -42,7 +42,7 @@ MINUTES = {
     "wm_bodies": (4.5, 1.6),
     "wm_read": (2.5, 3.5),
     "wm_write": (3.5, 2.6),
-    "wm_refusals": (0.1, 0.6),
+    "wm_refusals": (0.1, 1.4),
     "wm_command": (0.4, 4.0),
     "wm_cli": (0.4, 2.5),
     "wm_c": (0.4, 2.5),

@@ -4,12 +4,12 @@ ghost use Rattle.std.specs.Prelude.{◌≡◌, ◌≤◌, None, drop, length, ta
 
 use crate::arguments::Line;
 use crate::complaint::{Escaped, complain};
-use crate::hints::{hint_for, section_name};
 use crate::position::{Position, is_first, locate};
 use crate::status::Status;
 use std::fmt;
 use wm_decode::{Place, Refusal};
 use wm_read::faults::{TextRefusal, TextWhy};
+use wm_refusals::hints::{hint_for, section_name};
 use wm_refusals::rows::{Row, row_of_module, row_of_text};
 use wm_rules::Found;
 use wm_syntax::why::Why;
@@ -344,10 +344,8 @@ impl fmt::Display for Refused {
     fn fmt<W: fmt::Write>(&self, f: &mut fmt::Formatter<W>) -> fmt::Result {
         let Refused(Refusal { at: _, why }, found) = self;
         self.place(f)?;
-        match found
-            .byte
-            .and_then(|byte| hint_for(*why, byte, found.place))
-        {
+        let spot = found.place.map(|place| (place.section, place.awaits));
+        match found.byte.and_then(|byte| hint_for(*why, byte, spot)) {
             Some(hint) => write!(f, ": {hint}"),
             // the line says already that the input ends
             None if *why == Why::Truncated => Ok(()),

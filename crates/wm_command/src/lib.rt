@@ -10,7 +10,6 @@ pub mod detail;
 pub mod execute;
 pub mod explain;
 mod features;
-mod hints;
 pub mod laws;
 pub mod line;
 mod list;

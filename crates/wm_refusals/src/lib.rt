@@ -1,5 +1,7 @@
-//! The meaning of each NAME of a refusal, for the command and for the calls for C.
+//! The meaning of each NAME of a refusal, and what a refused byte begins in later versions of the standard, for the
+//! command and for the calls for C.
 #![tactic(auto)]
 
+pub mod hints;
 pub mod rows;
 pub mod tables;

@@ -1,8 +1,13 @@
 //! The table of features after WebAssembly 1.0, a line for each way in which one of them is refused. The table of
 //! `docs/LIMITS.md` has these lines as its rows.
 
+ghost use Rattle.std.specs.Prelude.{◌≡◌, Contains, IfSome};
+ghost use Rattle.std.specs.Str.Lines.{lines};
+ghost use Rattle.wm_syntax.specs.Refusals.{name_of};
+ghost use Rattle.wm_refusals.specs.Hints.{hint_line};
+
 use std::fmt;
-use wm_decode::{Awaits, Place};
+use wm_decode::Awaits;
 use wm_syntax::why::Why;
 
 /// A line has the NAME of the refusal, the section, the awaited part, the bytes, what begins there, the feature and
@@ -115,18 +120,26 @@ pub const OF_FEATURES: &str = "\
     Version | any | any | 0a to 0d | a component, not a module | component model | check the core \
         modules inside it";
 
-/// A line of the table.
+/// A line of the table, which speaks of refused bytes. In `section`, `awaited` and `bytes`, `any` fits everything.
 #[derive(Clone, Copy)]
-pub(crate) struct Hint<'a> {
-    name: &'a str,
-    section: &'a str,
-    awaited: &'a str,
-    bytes: &'a str,
-    begins: &'a str,
-    feature: &'a str,
-    remedy: &'a str,
+pub struct Hint<'a> {
+    /// The NAME of the refusal.
+    pub name: &'a str,
+    /// The section that a byte lies in, such as `code`.
+    pub section: &'a str,
+    /// The part of the format that it belongs to, such as `opcode`.
+    pub awaited: &'a str,
+    /// The byte, such as `fc`, or the first and the last one, such as `c0 to c4`.
+    pub bytes: &'a str,
+    /// What it begins in a later version of the standard.
+    pub begins: &'a str,
+    /// The features that this needs, with commas between them: the words of `--features`, or else LLVM's.
+    pub feature: &'a str,
+    /// What admits it, or how to avoid it.
+    pub remedy: &'a str,
 }
 
+/// The end of the line of detail.
 impl fmt::Display for Hint<'_> {
     fn fmt<W: fmt::Write>(&self, f: &mut fmt::Formatter<W>) -> fmt::Result {
         write!(f, "{} ({}); {}", self.begins, self.feature, self.remedy)
@@ -156,7 +169,10 @@ fn has_byte(cell: &str, byte: u8) -> bool {
 }
 
 impl<'a> Hint<'a> {
-    fn of(line: &'a str) -> Option<Hint<'a>> {
+    /// Reads a line of the table. Returns `None` if it has fewer than seven parts.
+    pub fn of(line: &'a str) -> Option<Hint<'a>>
+        ensures { IfSome result (λ hint. line.now ≡ hint_line hint) }
+    {
         let (name, rest) = line.split_once(" | ")?;
         let (section, rest) = rest.split_once(" | ")?;
         let (awaited, rest) = rest.split_once(" | ")?;
@@ -174,26 +190,29 @@ impl<'a> Hint<'a> {
         })
     }
 
-    /// Whether the line is about this byte at this place. A block type may be a value type.
-    fn is_for(&self, why: Why, byte: u8, place: Option<Place>) -> bool {
-        let (section, awaited) = match place {
-            Some(place) => (section_name(place.section), awaited_name(place.awaits)),
+    /// Whether the line is about this byte in this section and part of the format. A block type may be a value type.
+    fn is_for(&self, byte: u8, spot: Option<(u8, Awaits)>) -> bool {
+        let (section, awaited) = match spot {
+            Some((id, awaits)) => (section_name(id), awaited_name(awaits)),
             None => ("none", "none"),
         };
-        self.name == why.name()
-            && fits(self.section, section)
+        fits(self.section, section)
             && (fits(self.awaited, awaited)
                 || (self.awaited == "value type" && awaited == "block type"))
             && has_byte(self.bytes, byte)
     }
 }
 
-/// Returns the first line of the table for a byte that is refused at this place, or `None` if the byte begins nothing
-/// of a later feature.
-pub(crate) fn hint_for(why: Why, byte: u8, place: Option<Place>) -> Option<Hint<'static>> {
+/// Returns the first line of the table for a byte that is refused by this NAME, in this section and part of the format.
+/// Returns `None` if the byte begins nothing of a later feature there.
+pub fn hint_for(why: Why, byte: u8, spot: Option<(u8, Awaits)>) -> Option<Hint<'static>>
+    ensures named { IfSome result (λ hint. hint.name.now ≡ name_of why) }
+    ensures line { IfSome result (λ hint. Contains (lines OF_FEATURES.now) (hint_line hint)) }
+{
+    let name = why.name();
     for line in OF_FEATURES.lines() {
         match Hint::of(line) {
-            Some(hint) if hint.is_for(why, byte, place) => return Some(hint),
+            Some(hint) if hint.name == name && hint.is_for(byte, spot) => return Some(hint),
             _ => {}
         }
     }
@@ -201,7 +220,7 @@ pub(crate) fn hint_for(why: Why, byte: u8, place: Option<Place>) -> Option<Hint<
 }
 
 /// Returns the name of the section with this id. Core spec 5.5.2.
-pub(crate) fn section_name(id: u8) -> &'static str {
+pub fn section_name(id: u8) -> &'static str {
     match id {
         0 => "custom",
         1 => "type",
