@@ -7,13 +7,13 @@ ghost use Rattle.wm_command.specs.Lists.{ending_byte, names_in};
 ghost use Rattle.wm_command.specs.declared.status.Status.{Status};
 
 use crate::arguments::{Ending, Line};
-use crate::complaint::{complain, complain_about, complain_of};
+use crate::complaint::{Escaped, complain, complain_about, complain_of};
 use crate::execute::Opens;
 use crate::path::path_by;
 use crate::several::{OutputFailed, Progress, go_on, greater_of};
 use crate::status::Status;
-use std::io;
 use std::io::{BufRead, BufReader, ErrorKind, Read};
+use std::{fmt, io};
 
 /// Runs the line's action on the file of a name that a list has. A name that is not UTF-8 counts as a file that cannot
 /// be read. Fails if standard output fails.
@@ -53,8 +53,25 @@ fn end_of_list<R: Eprint>(rt: &R, list: &str, error: io::Error) -> Status
     }
 }
 
+/// A list that has no names.
+#[derive(Clone, Copy)]
+struct NoNames<'a>(&'a str);
+
+impl fmt::Display for NoNames<'_> {
+    fn fmt<W: fmt::Write>(&self, f: &mut fmt::Formatter<W>) -> fmt::Result {
+        write!(f, "{}: the list has no names", Escaped(self.0))
+    }
+}
+
+/// Reports on standard error a list whose end comes before all names.
+fn note_if_empty<R: Eprint>(rt: &R, list: &str, names: u64) {
+    if names == 0 {
+        complain(rt, &NoNames(list));
+    }
+}
+
 /// Runs the line's action on each file that the list names, and returns the greatest status. One name is in memory at a
-/// time. If standard output or the list fails, the run ends, and that counts too.
+/// time. If standard output or the list fails, the run ends, and that counts too. A list without names is reported.
 fn follow_list<R: Input + Print + Eprint + AllocGlobal, O: Opens, B: BufRead + Drop>(
     rt: &R,
     files: &O,
@@ -70,11 +87,14 @@ fn follow_list<R: Input + Print + Eprint + AllocGlobal, O: Opens, B: BufRead + D
 {
     let mut progress = progress;
     let mut names = reader.split(rt.alloc(), end);
-    for _ in 0..u64::MAX {
+    for before in 0..u64::MAX {
         let name = match names.next() {
             Some(Ok(name)) => name,
             Some(Err(error)) => return greater_of(progress.worst, end_of_list(rt, list, error)),
-            None => return progress.worst,
+            None => {
+                note_if_empty(rt, list, before);
+                return progress.worst;
+            }
         };
         progress = match go_on_by(rt, files, line, list, &name, progress) {
             Ok(next) => next,
