@@ -299,6 +299,16 @@ struct wmod_place {
  * before the byte alone determine `section` and `awaits`. Tested: the meaning of `awaits`, and the other fields. */
 uint32_t wmod_place(wmod_validator *v, struct wmod_place *place);
 
+/* Writes what a refused byte begins in a later version of the standard, the features that this needs, what to do, and a
+ * 0, as far as there is room. The three are lines, with line feeds between them. `why` is that of the answer, and
+ * `place` is that of the byte. The features are the words of `wmod --features`, or else those of LLVM, such as
+ * `reference-types`, with `, ` between them. What to do names the options of the command and of compilers. The last
+ * byte written is 0 unless capacity is 0. Returns the length of the text, or 0 if the byte begins nothing of a later
+ * version there. WMOD_EXPLAIN_ROOM is a capacity that suffices.
+ *
+ * Proved: the text is a line of the table of docs/LIMITS.md, and that line speaks of `why`. Tested: which line. */
+size_t wmod_hint(uint32_t why, const struct wmod_place *place, char *text, size_t capacity);
+
 /* Frees what the handle holds, at any moment, and leaves it empty. Does nothing if the handle is empty. */
 void wmod_end(wmod_validator *v);
 

@@ -1,5 +1,5 @@
 /* Judges standard input in pieces. If it is refused, prints the line of `wmod check`, the section and the member of the
- * byte that decided, what the refusal means, and what to do.
+ * byte that decided, what this byte begins in a later version of the standard, what the refusal means, and what to do.
  *
  *   cc explain.c $(pkg-config --cflags --libs wmod) -o explain
  */
@@ -12,7 +12,6 @@ static void say_refusal(wmod_validator *v, const wmod_answer *answer) {
   char name[32], text[WMOD_EXPLAIN_ROOM];
   struct wmod_place place;
   wmod_why_name(answer->why, name, sizeof name);
-  wmod_explain(answer->why, text, sizeof text);
   wmod_place(v, &place);
   printf("refused at %lu: %s\n", (unsigned long)answer->at, name);
   if (place.section != WMOD_NONE) {
@@ -22,6 +21,10 @@ static void say_refusal(wmod_validator *v, const wmod_answer *answer) {
     }
     puts("");
   }
+  if (wmod_hint(answer->why, &place, text, sizeof text) > 0) {
+    puts(text);
+  }
+  wmod_explain(answer->why, text, sizeof text);
   puts(text);
 }
 

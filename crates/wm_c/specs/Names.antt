@@ -1,10 +1,14 @@
--- The names and the explanations of refusals, and the buffer that they are written to.
-use Rattle.std.specs.Prelude.{◌≡◌, ◌++◌, ◌∷◌, ◌⊎◌, ℕ, List, [], codes, length, drop, take, min}
+-- The names, the explanations and the hints of refusals, and the buffer that they are written to.
+use Rattle.std.specs.Prelude.{◌≡◌, ◌++◌, ◌∷◌, ◌⊎◌, ℕ, List, [], Contains, codes, length, drop, take, min}
+use Rattle.std.specs.Str.Lines.{lines}
 use Rattle.wm_syntax.specs.declared.why.Why.{Why}
 use Rattle.wm_syntax.specs.Refusals as modules
 use Rattle.wm_tokens.specs.declared.faults.TextWhy.{TextWhy}
 use Rattle.wm_tokens.specs.Faults as texts
+use Rattle.wm_refusals.specs.Hints.{hint_line}
 use Rattle.wm_refusals.specs.Rows.{IsRowOfModule, IsRowOfText}
+use Rattle.wm_refusals.specs.declared.hints.Hint.{Hint}
+use Rattle.wm_refusals.specs.declared.hints.TheConstants.{OF_FEATURES}
 use Rattle.wm_refusals.specs.declared.rows.Row.{Row}
 use Rattle.wm_c.specs.Codes.{text_code, why_code}
 
@@ -34,3 +38,12 @@ HasRow n row = ((w : Why) × (n ≡ why_code w) × IsRowOfModule (modules.name_o
 -- The text for a row: what the refusal means, a line feed, and what to do.
 abbrev pub explanation : Row → List ℕ
 explanation row = (row.means.now ++ 10 ∷ []) ++ row.advice.now
+
+-- The hint is a line of the table of later features, and speaks of the refusal of a module with this number.
+abbrev pub HasHint : ℕ → Hint → Type 0
+HasHint n hint = ((w : Why) × (n ≡ why_code w) × (hint.name.now ≡ modules.name_of w))
+    × Contains (lines OF_FEATURES.now) (hint_line hint)
+
+-- The text for a hint: what the byte begins, the features and what to do, with line feeds between them.
+abbrev pub hint_text : Hint → List ℕ
+hint_text hint = (((hint.begins.now ++ 10 ∷ []) ++ hint.feature.now) ++ 10 ∷ []) ++ hint.remedy.now

@@ -1,7 +1,8 @@
 //! The place of a byte in a module, as C gets it.
 
-ghost use Rattle.std.specs.Prelude.{◌≡◌};
+ghost use Rattle.std.specs.Prelude.{◌≡◌, ◌≢◌, IfSome, MatchOption, Some};
 ghost use Rattle.wm_c.specs.Places.{awaits_code, nowhere, numbers_in, spot_numbers};
+ghost use Rattle.wm_decode.specs.declared.place.awaits.Awaits.{Awaits as AnAwaits};
 ghost use Rattle.wm_decode.specs.inner.Places.{spot_of};
 
 use wm_rules::{Awaits, Found, Imported, Place as PlaceOf};
@@ -39,6 +40,30 @@ fn awaits_number(awaits: Awaits) -> u32
         Awaits::Kind => 12,
         Awaits::Any => 13,
         Awaits::OpcodeNumber => 14,
+    }
+}
+
+/// Returns the part of the format with this number.
+fn awaits_of(number: u32) -> Option<Awaits>
+    ensures { MatchOption result ((awaits : AnAwaits) → number ≢ awaits_code awaits)
+        (λ awaits. number ≡ awaits_code awaits) }
+{
+    match number {
+        1 => Some(Awaits::Number),
+        2 => Some(Awaits::Name),
+        3 => Some(Awaits::ValueType),
+        4 => Some(Awaits::BlockType),
+        5 => Some(Awaits::TypeForm),
+        6 => Some(Awaits::LimitsFlag),
+        7 => Some(Awaits::ElementType),
+        8 => Some(Awaits::Mutability),
+        9 => Some(Awaits::Opcode),
+        10 => Some(Awaits::TableByte),
+        11 => Some(Awaits::MemoryByte),
+        12 => Some(Awaits::Kind),
+        13 => Some(Awaits::Any),
+        14 => Some(Awaits::OpcodeNumber),
+        _ => None,
     }
 }
 
@@ -94,5 +119,13 @@ impl Place {
                 byte,
             },
         }
+    }
+
+    /// Returns the section and the part of the format. `None` outside of sections, and for numbers that no place has.
+    pub(crate) fn spot(&self) -> Option<(u8, Awaits)>
+        ensures { IfSome result (λ spot. spot_numbers (Some spot) ≡ numbers_in self.now) }
+    {
+        let section = u8::try_from(self.section).ok()?;
+        Some((section, awaits_of(self.awaits)?))
     }
 }
