@@ -47,7 +47,7 @@ mod why;
 
 pub use error::{Error, ErrorKind};
 pub use options::{Feature, Options, Profile};
-pub use place::{Awaits, Place};
+pub use place::{Awaits, Hint, Place};
 pub use validator::{Summary, Validator};
 pub use why::{Name, Why};
 

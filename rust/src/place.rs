@@ -1,4 +1,5 @@
 use crate::sys;
+use std::fmt;
 
 /// The part of the format that a byte of a section belongs to.
 #[derive(Clone, Copy, PartialEq, Eq, Hash, Debug)]
@@ -85,5 +86,41 @@ impl Place {
             awaits: awaits.and_then(|it| ALL_AWAITS.get(it).copied()),
             byte: u8::try_from(place.byte).ok(),
         }
+    }
+}
+
+/// What a refused byte begins in a later version of the standard, from [`Validator::hint`](crate::Validator::hint).
+///
+/// [`Display`](fmt::Display) writes it as the command does: `BEGINS (FEATURES); REMEDY`.
+#[derive(Clone, PartialEq, Eq, Hash, Debug)]
+#[non_exhaustive]
+pub struct Hint {
+    /// What the byte begins, such as `a tail call`.
+    pub begins: String,
+    /// The features that this needs, with `, ` between them: the words of `wmod --features`, or else those of LLVM.
+    pub features: String,
+    /// What to do, by options of the command or of a compiler.
+    pub remedy: String,
+}
+
+impl Hint {
+    /// Returns the hint of the refusal with this number. `None` if the byte begins nothing of a later version there.
+    pub(crate) fn of(why: u32, place: &sys::Place) -> Option<Hint> {
+        let mut text = [0_u8; sys::EXPLAIN_ROOM];
+        // SAFETY: pointer and length are those of one array, and the call reads all fields of the place.
+        let length = unsafe { sys::wmod_hint(why, place, text.as_mut_ptr().cast(), text.len()) };
+        let text = std::str::from_utf8(text.get(..length)?).ok()?;
+        let mut lines = text.lines().map(str::to_owned);
+        Some(Hint {
+            begins: lines.next()?,
+            features: lines.next()?,
+            remedy: lines.next()?,
+        })
+    }
+}
+
+impl fmt::Display for Hint {
+    fn fmt(&self, f: &mut fmt::Formatter<'_>) -> fmt::Result {
+        write!(f, "{} ({}); {}", self.begins, self.features, self.remedy)
     }
 }

@@ -15,7 +15,6 @@ pub(crate) const SIGN_EXT: u64 = 0x100;
 pub(crate) const CALL_INDIRECT_OVERLONG: u64 = 0x200;
 pub(crate) const NONTRAPPING_FPTOINT: u64 = 0x400;
 pub(crate) const BULK_MEMORY_OPT: u64 = 0x800;
-#[cfg(test)]
 pub(crate) const EXPLAIN_ROOM: usize = 1024;
 
 #[repr(C)]
@@ -86,6 +85,12 @@ extern "C" {
     pub(crate) fn wmod_feed(v: *mut Validator, piece: *const u8, length: usize) -> u32;
     pub(crate) fn wmod_finish(v: *mut Validator, answer: *mut Answer) -> u32;
     pub(crate) fn wmod_place(v: *mut Validator, place: *mut Place) -> u32;
+    pub(crate) fn wmod_hint(
+        why: u32,
+        place: *const Place,
+        text: *mut c_char,
+        capacity: usize,
+    ) -> usize;
     pub(crate) fn wmod_end(v: *mut Validator);
     pub(crate) fn wmod_canon(
         bytes: *const u8,

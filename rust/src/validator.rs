@@ -1,4 +1,4 @@
-use crate::{sys, Error, Options, Place};
+use crate::{sys, Error, Hint, Options, Place};
 use std::fmt;
 use std::io;
 use std::ptr;
@@ -118,24 +118,51 @@ impl Validator {
         }
     }
 
-    /// Returns the place of the byte that was refused, or of the next byte if none was. [`Error::place`] has the offset
-    /// of the byte.
+    /// Returns the place of the byte that was refused, or of the next byte if none was. [`Error::offset`] has the
+    /// offset of the byte.
     ///
     /// ```
     /// let mut validator = wmod::Validator::new()?;
     /// // a type section of two types, and no function type begins with 0x40
     /// let error = validator.feed(b"\0asm\x01\0\0\0\x01\x07\x02\x60\0\0\x40").unwrap_err();
-    /// assert_eq!((error.why(), error.place()), (wmod::Why::BadByte, Some(15)));
+    /// assert_eq!((error.why(), error.offset()), (wmod::Why::BadByte, Some(15)));
     /// let place = validator.place();
     /// assert_eq!((place.section, place.item), (Some(1), Some(1)));
     /// assert_eq!((place.awaits, place.byte), (Some(wmod::Awaits::TypeForm), Some(0x40)));
     /// # Ok::<(), wmod::Error>(())
     /// ```
     pub fn place(&mut self) -> Place {
+        Place::of(&self.spot())
+    }
+
+    /// Returns what the refused byte begins in a later version of the standard. `None` if no byte was refused, or if it
+    /// begins nothing of a later version there.
+    ///
+    /// ```
+    /// let mut validator = wmod::Validator::new()?;
+    /// // a data count section
+    /// validator.feed(b"\0asm\x01\0\0\0\x0C").unwrap_err();
+    /// let hint = validator.hint().unwrap();
+    /// assert_eq!((hint.begins.as_str(), hint.features.as_str()), ("a data count section", "bulk-memory"));
+    /// assert_eq!(hint.to_string(), "a data count section (bulk-memory); compile with -mno-bulk-memory");
+    /// # Ok::<(), wmod::Error>(())
+    /// ```
+    pub fn hint(&mut self) -> Option<Hint> {
+        let place = self.spot();
+        if place.byte == sys::NONE {
+            return None;
+        }
+        let mut answer = sys::Answer::default();
+        // SAFETY: the handle was begun. Since a byte was refused, the end of the input changes nothing.
+        unsafe { sys::wmod_finish(&mut self.handle, &mut answer) };
+        Hint::of(answer.why, &place)
+    }
+
+    fn spot(&mut self) -> sys::Place {
         let mut place = sys::Place::default();
         // SAFETY: the handle was begun; the call writes all fields.
         unsafe { sys::wmod_place(&mut self.handle, &mut place) };
-        Place::of(&place)
+        place
     }
 
     /// Ends the input and returns its figures.

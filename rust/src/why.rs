@@ -36,7 +36,7 @@ macro_rules! refusals {
         /// Why a call failed: each NAME of a refusal, and its sentence.
         ///
         /// A refusal of a text begins with `Text`. In its sentence N is the offset that
-        /// [`Error::place`](crate::Error::place) returns. [`Display`](fmt::Display) writes the NAME.
+        /// [`Error::offset`](crate::Error::offset) returns. [`Display`](fmt::Display) writes the NAME.
         ///
         /// ```
         /// use wmod::Why;

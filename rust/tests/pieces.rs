@@ -1,9 +1,7 @@
 //! A module in pieces has the answer of the whole.
 
 use std::io::{self, Write};
-use wmod::{
-    validate, Awaits, Error, ErrorKind, Feature, Options, Profile, Validator, Why,
-};
+use wmod::{validate, Awaits, Error, ErrorKind, Feature, Options, Profile, Validator, Why};
 
 const ADD: &[u8] =
     b"\0asm\x01\0\0\0\x01\x07\x01\x60\x02\x7f\x7f\x01\x7f\x03\x02\x01\0\x0a\x09\x01\x07\0\x20\0\x20\x01\x6a\x0b";
@@ -94,17 +92,45 @@ fn features_are_added_to_a_profile() {
     assert_eq!(others, three);
     assert_eq!(Options::new().features(&[]), Options::new());
     let long = [Feature::CallIndirectOverlong];
-    assert_eq!(Options::new().features(&long).validate(CALL).unwrap().functions, 1);
-    assert_eq!(Options::new().validate(CALL).unwrap_err().to_string(), "refused at 34: BadByte");
+    assert_eq!(
+        Options::new()
+            .features(&long)
+            .validate(CALL)
+            .unwrap()
+            .functions,
+        1
+    );
+    assert_eq!(
+        Options::new().validate(CALL).unwrap_err().to_string(),
+        "refused at 34: BadByte"
+    );
     let whole = [Feature::BulkMemoryOpt];
-    assert_eq!(Options::new().features(&whole).validate(FILL).unwrap().functions, 1);
-    assert_eq!(Options::new().validate(FILL).unwrap_err().to_string(), "refused at 35: BadOpcode");
-    let all = [long[0], whole[0], Feature::NontrappingFptoint, Feature::SignExt];
+    assert_eq!(
+        Options::new()
+            .features(&whole)
+            .validate(FILL)
+            .unwrap()
+            .functions,
+        1
+    );
+    assert_eq!(
+        Options::new().validate(FILL).unwrap_err().to_string(),
+        "refused at 35: BadOpcode"
+    );
+    let all = [
+        long[0],
+        whole[0],
+        Feature::NontrappingFptoint,
+        Feature::SignExt,
+    ];
     let all = Options::new().profile(Profile::THREE).features(&all);
     for bytes in [ADD, EXTENDS, FLOAT, CALL, FILL, TRUNCATES] {
         assert!(all.validate(bytes).is_ok());
     }
-    assert_eq!(three.validate(TRUNCATES).unwrap_err().to_string(), "refused at 29: BadOpcode");
+    assert_eq!(
+        three.validate(TRUNCATES).unwrap_err().to_string(),
+        "refused at 29: BadOpcode"
+    );
 }
 
 #[test]
@@ -145,6 +171,26 @@ fn a_place_stays() {
     validator.feed(b"\0\0\0").unwrap_err();
     assert_eq!(validator.place(), place);
     assert_eq!(validator.finish().unwrap_err().place(), Some(27));
+}
+
+#[test]
+fn a_hint_stays() {
+    let mut validator = Validator::new().unwrap();
+    assert_eq!(validator.hint(), None);
+    validator.feed(&CALL[..20]).unwrap();
+    assert_eq!(validator.hint(), None);
+    let error = validator.feed(&CALL[20..]).unwrap_err();
+    let hint = validator.hint().unwrap();
+    assert_eq!(hint.begins, "a table index of more than one byte");
+    assert_eq!(hint.features, "call-indirect-overlong");
+    assert!(hint.remedy.contains("--features call-indirect-overlong"));
+    assert_eq!(validator.hint(), Some(hint));
+    assert_eq!(validator.finish(), Err(error));
+    // no instruction of any version begins with the byte 27
+    let mut validator = Validator::new().unwrap();
+    validator.feed(&ADD[..26]).unwrap();
+    validator.feed(b"\x27").unwrap_err();
+    assert_eq!(validator.hint(), None);
 }
 
 #[test]
