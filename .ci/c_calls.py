@@ -12,7 +12,8 @@ It ends with status 1 if one of these tests fails:
 - input that cannot be read gets no answer;
 - a call takes NULL for no bytes, and for a buffer without room;
 - each call of c_rows.txt, made in order, has the answer of its row;
-- wmod_explain writes the sentences of `wmod explain` for each number of the header, and nothing for another number.
+- wmod_explain writes the sentences of `wmod explain` for each number of the header, and nothing for another number;
+- wmod_hint writes what the line of detail of `wmod` says, for each such line of the tests of wm_cli.
 
 Without a C compiler it says so and tests nothing. That is a failure if the variable CI is `true`.
 """
@@ -24,6 +25,7 @@ import sys
 import tempfile
 
 sys.dont_write_bytecode = True
+import command
 import deep
 import growths
 import needs
@@ -39,7 +41,7 @@ MODULES = 1000
 STACK = 64
 # the rows of calls, and their least number, so that no row is lost by accident
 ROWS = os.path.join(HERE, "c_rows.txt")
-LEAST = 245
+LEAST = 271
 # the inputs that c_rows.txt names: a function that adds two numbers, one that extends a byte, a text with a keyword of
 # older tools, and a text whose module is not valid
 INPUTS = {
@@ -48,6 +50,8 @@ INPUTS = {
     "OLDER": "(module (type (func)) (func (type 0) (local i32) get_local 0 drop))",
     "START": "(module (start 0))",
 }
+# a module that begins something of a later version
+REFUSED = bytes.fromhex(INPUTS["EXTEND"])
 # the output of null_bytes.c: the refusals of no bytes and of an empty text, and the lengths of outputs without room
 NULL_LINES = """validate 1 11 0
 validate_with 1 11 0
@@ -65,6 +69,7 @@ show a module 5 0 9
 build a text 5 0 8
 why_name 5
 explain 201
+hint 54
 """
 # the numbers that wmod_explain is asked for, and the capacity that the header promises to suffice
 NUMBERS = range(300)
@@ -199,6 +204,38 @@ def are_all_explained(room):
     return not wrong
 
 
+def hints():
+    """Yields the end of the line of detail that each line of the table makes, and its three parts."""
+    (lines,) = refusals.lines_of_tables(refusals.TOP, refusals.HINTS)
+    for begins, feature, remedy in (line.split(" | ")[4:] for line in lines):
+        yield f": {begins} ({feature}); {remedy}", (begins, feature, remedy)
+
+
+def hinted():
+    """Yields the calls for each binary of the rows of detail, and the text that `hint` writes last."""
+    ends = dict(hints())
+    numbers = dict(refusals.features_of_header(refusals.TOP))
+    for words, given, line in command.details():
+        options = dict(re.findall(r"--(\S+) (\S+)", words))
+        if words.startswith("wmod check"):
+            profile = int(options.get("profile", 1)) + sum(numbers[word] for word in options.get("features", "").split(",") if word)
+            calls = [f"begin {profile} {options.get('limit', 1000)}", f"feed {given.hex().upper() or '.'}", f"hint {CAPACITY}"]
+            yield calls, "\n".join(next((it for end, it in ends.items() if line.endswith(end)), ()))
+
+
+def are_all_hinted(room):
+    """Whether wmod_hint writes what the lines of detail say."""
+    wanted = list(hinted())
+    status, written = line([f"{room}/c_rows"], "".join(f"{call}\n" for calls, _ in wanted for call in calls).encode())
+    found = written.decode("ascii", "replace").splitlines()
+    said = [f"hint {CAPACITY} = {len(text)} {(text.replace(chr(10), '|') + '0').ljust(CAPACITY, '?')}" for _, text in wanted]
+    wrong = [f"{answer:.200}" for answer, row in zip(found[2::3], said) if answer != row]
+    if status or len(found) != 3 * len(said):
+        wrong.append(f"status {status} after {len(found)} calls")
+    print(f"C: {sum(bool(text) for _, text in wanted)} hints: " + (f"wrong: {'; '.join(wrong[:3])}" if wrong else "ok"), flush=True)
+    return not wrong
+
+
 def are_rows_right(room):
     """Whether each call has the answer of its row."""
     wanted = rows()
@@ -230,7 +267,7 @@ def is_well(archive, program):
         fault = compiled(archive, room)
         wrong = [fault] if fault else [it for number in range(MODULES) for it in differences(room, program, number)]
         print(f"C: {MODULES} modules by C and by wmod: " + (f"wrong: {'; '.join(wrong[:3])}" if wrong else "ok"), flush=True)
-        return not wrong and all([is_bare(room), are_rows_right(room), are_all_explained(room), is_unanswered(room, program), sweep(room), is_flat(room)])
+        return not wrong and all([is_bare(room), are_rows_right(room), are_all_explained(room), are_all_hinted(room), is_unanswered(room, program), sweep(room), is_flat(room)])
 
 
 if __name__ == "__main__":

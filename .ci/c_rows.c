@@ -10,6 +10,7 @@
  *   name NUMBER ROOM                                      the length and the buffer, with `0` for its end
  *   explain NUMBER ROOM                                   the same, with `|` for a line feed
  *   place                                                 the status and the five fields of the place, with `-` for none
+ *   hint ROOM                                             as `explain`, of the place of the handle and its answer
  *   version                                               the version of the library
  *
  * OPTIONS are all seven options, with `-` for no limit. INPUT is in hexadecimal digits: `H` is the header, and `.` is
@@ -146,16 +147,38 @@ static void convert(const char *name) {
   say_room(out, room, *name != 's');
 }
 
+/* Prints the length of a text, and its buffer. */
+static void say_text(size_t length, const char *out, size_t room) {
+  size_t i;
+  printf("%lu ", (unsigned long)length);
+  for (i = 0; i < room; i++) putchar(out[i] == '\n' ? '|' : out[i] ? out[i] : '0');
+}
+
+/* Reads the size of a buffer, and fills the buffer. */
+static size_t filled(char *out) {
+  size_t room = (size_t)number();
+  if (room > ROOM) fail("too much room");
+  memset(out, '?', room);
+  return room;
+}
+
 /* Makes one of the two calls that write a text about a refusal. */
 static void words_of(size_t (*call)(uint32_t, char *, size_t)) {
   char out[ROOM];
   uint32_t why = (uint32_t)number();
-  size_t i, length, room = (size_t)number();
-  if (room > ROOM) fail("too much room");
-  memset(out, '?', room);
-  length = call(why, out, room);
-  printf("%lu ", (unsigned long)length);
-  for (i = 0; i < room; i++) putchar(out[i] == '\n' ? '|' : out[i] ? out[i] : '0');
+  size_t room = filled(out);
+  say_text(call(why, out, room), out, room);
+}
+
+/* Ends the input of the handle, and makes the call that says what the refused byte begins. */
+static void hint(wmod_validator *v) {
+  char out[ROOM];
+  struct wmod_place place;
+  wmod_answer answer;
+  size_t room = filled(out);
+  wmod_finish(v, &answer);
+  wmod_place(v, &place);
+  say_text(wmod_hint(answer.why, &place, out, room), out, room);
 }
 
 static void say_field(uint32_t field) {
@@ -214,6 +237,7 @@ int main(void) {
     else if (strcmp(name, "canon") == 0 || strcmp(name, "show") == 0 || strcmp(name, "build") == 0) convert(name);
     else if (strcmp(name, "name") == 0) words_of(wmod_why_name);
     else if (strcmp(name, "explain") == 0) words_of(wmod_explain);
+    else if (strcmp(name, "hint") == 0) hint(&v);
     else if (strcmp(name, "version") == 0) say(wmod_version());
     else piecewise(&v, name);
     putchar('\n');

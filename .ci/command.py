@@ -2,10 +2,12 @@
 
     .ci/command.py PROGRAM       the built wmod
 
-It ends with status 1 if a run differs from its row, or if rows are missing.
+It also plays the lines of detail that the tests of wm_cli have, and explains each NAME of a refusal, in any case of its
+letters. It ends with status 1 if a run differs from what is wanted, or if rows are missing.
 """
 import os
 import pathlib
+import re
 import resource
 import shlex
 import signal
@@ -13,9 +15,12 @@ import subprocess
 import sys
 import tempfile
 
+sys.dont_write_bytecode = True
+import refusals
+
 # the rows, and their least number, so that no row is lost by accident
 ROWS = pathlib.Path(__file__).resolve().parent / "command_rows.txt"
-LEAST = 272
+LEAST = 300
 TYPED = b"(module)"
 SIGN = bytes.fromhex("0061736D01000000 01050160 00017F 03020100 0A08010600 41FF01 C0 0B")
 # what each run finds in its folder
@@ -50,9 +55,16 @@ def spelled(word):
     return word.encode("ascii").decode("unicode_escape").encode("latin-1")
 
 
+def words_of(command):
+    """The words of a row. WORD*N is N words that are alike."""
+    for word in shlex.split(command):
+        again = re.fullmatch(r"(.+)\*(\d+)", word)
+        yield from [spelled(again[1])] * int(again[2]) if again else [spelled(word)]
+
+
 def parts(command):
     """The words of a row, and what standard input gives."""
-    words = [spelled(word) for word in shlex.split(command)]
+    words = list(words_of(command))
     return (words[:-2], words[-1]) if b"<" in words else (words, TYPED)
 
 
@@ -70,6 +82,10 @@ def closed_pipe():
     read, write = os.pipe()
     os.close(read)
     return write
+
+
+# what opens the standard output of a run, by the word before its words
+FAILING = {b"shut": closed_pipe, b"full": lambda: os.open("/dev/full", os.O_WRONLY)}
 
 
 def limited(size):
@@ -96,13 +112,13 @@ def changes(before, after):
 
 def played(program, words, given, folder):
     """Runs the words of a row in a folder. Returns the status and outputs in the form of a row."""
-    is_shut = words[0] == b"shut"
     size = int(words[1]) if words[0] == b"within" else None
-    out = closed_pipe() if is_shut else subprocess.PIPE
+    failing = FAILING.get(words[0])
+    out = failing() if failing else subprocess.PIPE
     # (the usage in a complaint has the name by which the program is called)
     named = [b"wmod", *words[words.index(b"wmod") + 1 :]]
     ran = subprocess.run(named, executable=program, input=given, stdout=out, stderr=subprocess.PIPE, cwd=folder, timeout=60, check=False, preexec_fn=lambda: limited(size))
-    if is_shut:
+    if failing:
         os.close(out)
     return f"{ran.returncode} {escaped(ran.stdout or b'')} {escaped(ran.stderr)}"
 
@@ -119,7 +135,50 @@ def answer(program, command):
         return said + changes(FILES, held(folder))
 
 
+def details():
+    """Yields the words, the input and the line of detail of each row of the tests of wm_cli."""
+    text = (refusals.TOP / refusals.DETAILS).read_text(encoding="utf8")
+    for words, given, line in re.findall(r'(?m)^(?:    r#")?detail (wmod .*?) <(?: (.*?))? = (.*?)(?:"#;)?$', text):
+        is_text = words.startswith("wmod build")
+        yield words, given.encode() if is_text else bytes.fromhex(given.replace("H", "0061736D 01000000")), line
+
+
+def has_details(program):
+    """Whether each line of detail is that of its row. Prints the others."""
+    count = wrong = 0
+    for words, given, line in details():
+        wanted = "" if line == "none" else f"wmod: standard input: {line}\n"
+        said = subprocess.run(words.split(), executable=program, input=given, stdout=subprocess.DEVNULL, stderr=subprocess.PIPE, timeout=60, check=False).stderr.decode()
+        count += 1
+        if said != wanted:
+            wrong += 1
+            print(f"command: {words} with {given}: {said}", flush=True)
+    print(f"command: {count} lines of detail, {wrong} wrong", flush=True)
+    return count > 0 and not wrong
+
+
+def sentences():
+    """Returns the output of `wmod explain` for each NAME: the rows that have it, in order."""
+    found = {}
+    for name, means, section, smallest, advice in (line.split(" | ", 4) for lines in refusals.lines_of_tables(refusals.TOP) for line in lines):
+        found[name] = found.get(name, "") + f"{name}\n  {means}\n  Standard: {section}\n  Smallest input: {smallest}\n  What to do: {advice}\n"
+    return found
+
+
+def explains_all(program):
+    """Whether `explain` prints the rows of each NAME, in any case of its letters. Prints the names for which it does not."""
+    wanted = sentences()
+    wrong = [form for name in wanted for form in (name, name.lower(), name.upper()) if answer(program, f"wmod explain {form}") != f'0 {escaped(wanted[name].encode())} ""']
+    print(f"command: {len(wanted)} names explained; wrong: {wrong or 'none'}", flush=True)
+    return bool(wanted) and not wrong
+
+
 def is_well(program):
+    """Whether all runs of the program are right."""
+    return all([has_rows(program), has_details(program), explains_all(program)])
+
+
+def has_rows(program):
     """Whether each run has the answer of its row. Prints the runs that differ."""
     wrong = 0
     asked = rows()

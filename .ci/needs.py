@@ -24,6 +24,7 @@ MORE = {
     "completions of fish": ["fish"],
     "the crate for cargo": ["cargo"],
     "its calls of std beside rustc 1.63": ["cargo-clippy"],
+    "its tests by rustc 1.63": ["/usr/bin/rustc", "/usr/bin/cargo"],
 }
 
 

@@ -15,6 +15,8 @@ int main(void) {
   wmod_validator v = WMOD_VALIDATOR_EMPTY;
   wmod_answer answer;
   wmod_output output;
+  /* the byte FD, which begins an instruction on vectors */
+  struct wmod_place vector = {10, 0, 0, WMOD_AWAITS_OPCODE, 0xFD};
   uint32_t status;
   status = wmod_validate(NULL, 0, WMOD_PROFILE_1, WMOD_LIMIT_DEFAULT, &answer);
   say("validate", status, answer.why, answer.at);
@@ -42,5 +44,6 @@ int main(void) {
   say("build a text", status, output.why, output.length);
   printf("why_name %lu\n", (unsigned long)wmod_why_name(WMOD_WHY_MAGIC, NULL, 0));
   printf("explain %lu\n", (unsigned long)wmod_explain(WMOD_WHY_MANY_LOCALS, NULL, 0));
+  printf("hint %lu\n", (unsigned long)wmod_hint(WMOD_WHY_BAD_OPCODE, &vector, NULL, 0));
   return 0;
 }

@@ -18,6 +18,7 @@ import tempfile
 sys.dont_write_bytecode = True
 import c_calls
 import needs
+import refusals
 
 TOP = pathlib.Path(__file__).resolve().parent.parent
 # the files that are installed beside the pages, by their folder there
@@ -30,6 +31,8 @@ POLICIES = {"upload": "--limit 1000000 --max-functions 10000 --max-locals 1000 -
 # the sample that explains a refusal, under the policy of `wmod check`
 EXPLAINS = "explain"
 MODULES = 40
+# where Debian's rustc and cargo are
+DEBIAN = pathlib.Path("/usr/bin")
 # the completions that bash must offer for the last of these words, and no others
 COMPLETED = {
     ("",): "check stats canon show build explain",
@@ -174,23 +177,28 @@ def check_samples(it, made):
             check_stops(sample)
 
 
+def sentences(it, module):
+    """Returns the status of `wmod check`, its line, and the lines of `wmod explain` and of `wmod_hint` on the refusal."""
+    status, line = run(it.program, "check", "-", given=module, wanted=None)
+    if not status:
+        return status, line, [], []
+    # a NAME of a module and of a text has the sentences for modules first
+    _, means, _, _, advice, *_ = run(it.program, "explain", line.split()[-1]).splitlines(True)
+    detail = run("sh", "-c", 'exec "$0" check - 2>&1 > /dev/null', it.program, given=module, wanted=None)[1]
+    hint = next((list(parts) for end, parts in c_calls.hints() if detail.endswith(f"{end}\n")), [])
+    return status, line, [means.strip(), advice.replace("What to do: ", "").strip()], hint
+
+
 def check_explained(it, made):
-    """Checks that the sample explain.c prints the line of wmod, a place, and the sentences of `wmod explain`."""
-    for number in range(MODULES):
-        module, _ = c_calls.made(number)
-        status, line = run(it.program, "check", "-", given=module, wanted=None)
-        wanted = [line]
-        if status:
-            # a NAME of a module and of a text has the sentences for modules first
-            _, means, _, _, advice, *_ = run(it.program, "explain", line.split()[-1]).splitlines(True)
-            wanted += [means.strip() + "\n", advice.replace("What to do: ", "").strip() + "\n"]
+    """Checks that the sample explain.c prints the line of wmod, a place, a hint, and the sentences of `wmod explain`."""
+    for number, module in enumerate([*(c_calls.made(number)[0] for number in range(MODULES)), c_calls.REFUSED]):
+        status, line, explained, hint = sentences(it, module)
         for key, sample in made.items():
             if key[0] == EXPLAINS:
                 found, said = run(sample, given=module, wanted=None)
-                lines = said.splitlines(True)
-                place = lines.pop(1) if len(lines) == 4 else ""
-                same(f"{key} of module {number}", (found, lines), (status, wanted))
-                same(f"the place by {key} of module {number}", bool(re.fullmatch(r"in section \d+(, member \d+)?\n|", place)), True)
+                place = r"(in section \d+(, member \d+)?\n)?" if status else ""
+                wanted = re.escape(line) + place + re.escape("".join(f"{it}\n" for it in hint + explained))
+                same(f"{key} of module {number}: {said!r}", (found, bool(re.fullmatch(wanted, said))), (status, True))
 
 
 def check_stops(sample):
@@ -282,7 +290,8 @@ def check_pages(it):
 def check_completions(it):
     file = it.to / "share/bash-completion/completions/wmod"
     run("bash", "-n", file)
-    for words, wanted in COMPLETED.items():
+    names = [line.split(" | ")[0] for lines in refusals.lines_of_tables(TOP) for line in lines]
+    for words, wanted in {**COMPLETED, ("explain", ""): " ".join(dict.fromkeys(names))}.items():
         script = f'compopt() {{ :; }}; . "{file}"; COMP_WORDS=(wmod "$@"); COMP_CWORD=$#; _wmod; echo "${{COMPREPLY[*]}}"'
         same(f"bash completes {words}", run("bash", "-c", script, "bash", *words), f"{wanted}\n")
     if it.has("zsh"):
@@ -315,6 +324,7 @@ def check_crate(it):
         same(f"the handler's answer to module {number}", found[: len(wanted)], wanted)
     check_manifest(it, crate, env)
     check_unfound(it, crate, env)
+    check_oldest(it, env)
 
 
 def check_manifest(it, crate, env):
@@ -336,6 +346,19 @@ def check_unfound(it, crate, env):
     del env["WMOD_LIB_DIR"]
     same("no library", "set WMOD_LIB_DIR to" in cargo(crate, env, "build", "--target", host, wanted=101), True)
     cargo(crate, {**env, "DOCS_RS": "1"}, "doc", "--target", host)
+
+
+def check_oldest(it, env):
+    """Runs the tests of the crate by the oldest rustc that its manifest names, if /usr/bin/rustc is of that version."""
+    oldest = re.search(r'(?m)^rust-version = "(.*)"', (TOP / "rust/Cargo.toml").read_text(encoding="utf-8"))[1]
+    if not all(os.access(DEBIAN / it, os.X_OK) for it in ("cargo", "rustc")) or f"rustc {oldest}." not in run(DEBIAN / "rustc", "--version", wanted=None)[1]:
+        it.said.append(f"no rustc {oldest}")
+        return
+    # a copy of its own, since it cannot read the lock file of a later cargo
+    crate = it.room / "oldest"
+    shutil.copytree(TOP / "rust", crate, ignore=shutil.ignore_patterns("target", "Cargo.lock"))
+    folders = {"PATH": f"{DEBIAN}:{env['PATH']}", "CARGO_TARGET_DIR": it.room / "target-oldest"}
+    cargo(crate, {**env, **{name: str(folder) for name, folder in folders.items()}}, "test")
 
 
 def check_dist(it):

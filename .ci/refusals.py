@@ -8,7 +8,7 @@ docs/COMMAND.md, the header and the crate for cargo have the words of `--feature
 It prints each fault, and ends with status 1 if there is one. Two tables of the page must have the rows that wm_rows
 runs, with a row for each printed name. The tables of the page must also have the lines that `wmod explain` prints.
 Each name of the header must have such a line. The crate for cargo must have the numbers and NAMEs of the header, and
-the sentences of these lines. c_calls.py compares the lines with the answers of `wmod_explain`.
+the sentences of these lines. c_calls.py compares the lines with the answers of `wmod_explain` and `wmod_hint`.
 """
 import collections
 import pathlib
@@ -22,7 +22,7 @@ WORDS = "crates/wm_syntax/src/why.rt"
 TEXT_WORDS = "crates/wm_tokens/src/faults.rt"
 TABLE = "crates/wm_refusals/src/tables.rt"
 LIMITS = "docs/LIMITS.md"
-HINTS = "crates/wm_command/src/hints.rt"
+HINTS = "crates/wm_refusals/src/hints.rt"
 FEATURES = "crates/wm_command/src/features.rt"
 COMMAND = "docs/COMMAND.md"
 DETAILS = "crates/wm_cli/src/tests/details.rt"
@@ -123,6 +123,13 @@ def unlike_features(top):
 def constant_of(word):
     """Returns the name of a word of `--features` in the header."""
     return "WMOD_" + word.upper().replace("-", "_")
+
+
+def features_of_header(top):
+    """Yields each word of `--features` with its bit in the header."""
+    for name, bit, word in re.findall(r"^#define (WMOD_\w+) (0x\d+)u /\* ([\w-]+): ", (top / HEADER).read_text(encoding="utf8"), re.M):
+        if name == constant_of(word):
+            yield word, int(bit, 16)
 
 
 def rows_of_crate(top):

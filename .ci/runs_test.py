@@ -137,6 +137,23 @@ TRIALS_OF_COMMANDS = {
     "a complaint": ("wmod check", '0 "valid\\n" ""', "echo valid; echo no >&2", False),
     "a fault of standard output": ("shut wmod check", '3 "" ""', "echo valid 2>/dev/null || exit 3", True),
     "a fault of standard output that is forgotten": ("shut wmod check", '3 "" ""', "echo valid 2>/dev/null; exit 0", False),
+    "standard output on a full device": ("full wmod check", '3 "" ""', "echo valid 2>/dev/null || exit 3", True),
+    "a full device that is forgotten": ("full wmod check", '3 "" ""', "echo valid 2>/dev/null; exit 0", False),
+    "words that are alike": ("wmod check a*3", '0 "4\\n" ""', "echo $#", True),
+}
+
+# the commands of a stand-in for wmod that gets one row of detail and the NAME `Kind`, and whether command.py accepts it
+LINE, SENTENCE = "a line", "Kind\n"
+TRIALS_OF_DETAILS = {
+    "the line of detail": (f'echo "wmod: standard input: {LINE}" >&2', True),
+    "another line of detail": ('echo "wmod: standard input: no line" >&2', False),
+    "no line of detail": ("", False),
+}
+TRIALS_OF_SENTENCES = {
+    "the sentences": ("echo Kind", True),
+    "other sentences": ("echo kind", False),
+    "a NAME in small letters that is not known": ('[ "$2" != kind ] && echo Kind', False),
+    "a NAME in capitals that is not known": ('[ "$2" != KIND ] && echo Kind', False),
 }
 
 # an edit that the prover refuses, and whether the test in NAMED then fails and names a row
@@ -168,12 +185,12 @@ def standing_in(room, does):
     return room
 
 
-def is_answer(room, words, wanted, does):
-    """Whether command.py gets the wanted answer from a stand-in that runs these commands."""
+def commanded(room, does):
+    """Returns a stand-in for wmod that runs these commands."""
     program = pathlib.Path(room, "commanded")
     program.write_text(f"#!/bin/sh\ntrap '' PIPE\n{does}\n", encoding="ascii")
     program.chmod(0o755)
-    return command.answer(str(program), words.split(), room) == wanted
+    return str(program)
 
 
 def tried_with(room, edit, crate, *words, given=""):
@@ -229,12 +246,26 @@ def trials_of_calls(room):
     for name, (does, wanted) in TRIALS_OF_CALLS.items():
         if c_calls.are_rows_right(standing_in(room, does)) != wanted:
             yield f"c_calls.py and a stand-in for c_rows: {name}"
+    c_calls.hinted = lambda: [(["begin", "feed", "hint"], "one\ntwo")]
+    row = f"hint {c_calls.CAPACITY} = 7 " + "one|two0".ljust(c_calls.CAPACITY, "?")
+    for name, said, wanted in (("the hint", row, True), ("another hint", row.replace("two", "too"), False), ("no hint", row[:5], False)):
+        if c_calls.are_all_hinted(standing_in(room, f"printf '1\\n2\\n{said}\\n' #")) != wanted:
+            yield f"c_calls.py and a stand-in for c_rows: {name}"
 
 
 def trials_of_commands(room):
     for name, (words, answer, does, wanted) in TRIALS_OF_COMMANDS.items():
-        if is_answer(room, words, answer, does) != wanted:
+        if (command.answer(commanded(room, does), words) == answer) != wanted:
             yield f"command.py and a stand-in: {name}"
+    command.details = lambda: [("wmod check", b"", LINE)]
+    command.sentences = lambda: {"Kind": SENTENCE}
+    for tried, trials in ((command.has_details, TRIALS_OF_DETAILS), (command.explains_all, TRIALS_OF_SENTENCES)):
+        for name, (does, wanted) in trials.items():
+            if tried(commanded(room, does)) != wanted:
+                yield f"command.py and a stand-in: {name}"
+    command.details, command.sentences = list, dict
+    if command.has_details(commanded(room, "")) or command.explains_all(commanded(room, "")):
+        yield "command.py: there is no line of detail, or no NAME"
 
 
 def trials_of_depth(room):

@@ -131,7 +131,7 @@ TRIALS_OF_REFUSALS = {
     "another sentence of a feature": (refusals.HEADER, r"sign-ext: the five", "sign-ext: the six", f"other words of --features in {refusals.HEADER} than in"),
     "a feature under another name": (refusals.HEADER, r"WMOD_SIGN_EXT 0x", "WMOD_SIGN 0x", f"other words of --features in {refusals.HEADER} than in"),
     "a feature that the crate lacks": (refusals.OPTIONS, r"/// `sign-ext`: ", "/// ", f"other words of --features in {refusals.OPTIONS} than in"),
-    "no row of features": (refusals.FEATURES, r"=> \[(\w+)\]", r"=> \1", f"{refusals.FEATURES} has no row"),
+    "no row of features": (refusals.FEATURES, r"[\s\S]+", "", f"{refusals.FEATURES} has no row"),
     "another sentence of the crate": (refusals.CRATE, r"/// One of the first", "/// None of the first", f"another sentence in {refusals.CRATE} than in {TABLE}: Magic"),
     "another number of the crate": (refusals.CRATE, r'1 "Magic"', '7 "Magic"', f"not in both {refusals.HEADER} and {refusals.CRATE}: 7 Magic Magic"),
     "a sentence of the crate for no input": (refusals.CRATE, r"/// Memory was refused", "/// Memory was there", f"another sentence in {refusals.CRATE} than in {TABLE}: Memory"),
@@ -252,7 +252,7 @@ def played(script, finds, top, trials):
 
 
 def trials_of_believed(room):
-    top = copied(room, "definitions", *(f"crates/{name}/specs" for name in ("wm_rules", "wm_c", "wm_command")))
+    top = copied(room, "definitions", *(f"crates/{name}/specs" for name in ("wm_decode", "wm_rules", "wm_c", "wm_command")))
     yield from played("believed.py", believed.unbelieved, top, TRIALS_OF_DEFINITIONS_READ)
     top = copied(room, "fields", "crates/*/src")
     yield from played("believed.py", believed.uncounted, top, TRIALS_OF_FIELDS)
@@ -317,7 +317,7 @@ def trials_of_rows(room):
     if not c_calls.are_rows_right(room):
         yield "c_calls.py: all rows are there"
     c_calls.ROWS = command.ROWS = empty
-    if c_calls.are_rows_right(room) or command.is_well(str(program)):
+    if c_calls.are_rows_right(room) or command.has_rows(str(program)):
         yield "c_calls.py or command.py: a file of rows is empty"
     lines = pathlib.Path(rows[0]).read_text(encoding="ascii").splitlines(keepends=True)
     empty.write_text("".join(lines[:-1]), encoding="ascii")
