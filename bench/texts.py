@@ -12,13 +12,16 @@ A program reads a text if the text writes a module, and accepts it if that modul
 writes another float than literals.py finds, a class must explain that.
 
 For each profile the script prints the number of texts of each class, with an example, and then each text that no class
-explains. It ends with status 1 if there is one. Without wat2wasm it compares nothing, says this and ends with status 2.
+explains. Then it prints each module of stock.bin and of the tree with wasm2wat, and compares what `build` makes of that
+text with `canon`. It ends with status 1 if a text is unexplained or one of these modules differs. Without wat2wasm it
+compares nothing, says this and ends with status 2.
 """
 import collections
 import itertools
 import pathlib
 import re
 import shutil
+import struct
 import subprocess
 import sys
 
@@ -26,6 +29,8 @@ import literals
 
 HERE = pathlib.Path(__file__).resolve().parent
 PROGRAM = HERE.parent / "crates/wm_cli/out/wm_cli"
+STOCKS = [HERE / "stock.bin", HERE.parent / "crates/wm_bench/data/small.bin"]
+ALONE = [HERE.parent / "examples/add.wasm"]
 NAMES = HERE.parent / "crates/wm_syntax/src/instructions/table.rt"
 PROFILES = ["2", "3"]
 LATER = ["saturating-float-to-int", "simd", "multi-value", "bulk-memory", "reference-types"]
@@ -449,7 +454,7 @@ def run(words, given):
 
 
 def built(program, profile, text):
-    well, out, complaint = run([program, "build", "--profile", profile, "-"], text)
+    well, out, complaint = run([program, "build", "--quiet", "--profile", profile, "-"], text)
     line = "" if well else f"{out.decode()}{complaint}".strip()
     return Answer(out if well else None, well or line.startswith("module refused"), line)
 
@@ -526,6 +531,27 @@ def judged(program, text, own, other):
     return "both refuse to read"
 
 
+def stocked(path):
+    """Yields the profile and the bytes of each module of a file that stock.py wrote."""
+    data, at = path.read_bytes(), 0
+    while at < len(data):
+        profile, size, entries, *others = struct.unpack_from("<5I", data, at)
+        at += 4 * (5 + 4 * entries + sum(others))
+        yield str(profile), data[at : at + size]
+        at += size
+
+
+def unlike_printed(program):
+    """Returns the number of modules that wasm2wat printed, and those of which `build` makes other bytes than `canon`."""
+    modules = [("1", path.read_bytes()) for path in ALONE] + [it for path in STOCKS for it in stocked(path)]
+    unlike = []
+    for number, (profile, module) in enumerate(modules):
+        _, text, complaint = run(["wasm2wat", *FLAGS, "-"], module)
+        if built(program, profile, text).binary != run([program, "canon", "--profile", profile, "-"], module)[1]:
+            unlike.append(f"module {number}, of {len(module)} bytes {complaint}")
+    return len(modules), unlike
+
+
 def main():
     if not shutil.which("wat2wasm"):
         print("texts: wat2wasm is missing, so nothing is compared", file=sys.stderr)
@@ -547,7 +573,9 @@ def main():
     for profile, name in wrong:
         for member in classes[profile][name]:
             print(f"{name} under profile {profile}: text, wmod, wat2wasm:", *map(repr, member), sep="\n  ")
-    return 1 if wrong else 0
+    count, unlike = unlike_printed(program)
+    print(f"{count} modules printed by wasm2wat, {len(unlike)} built otherwise", *unlike, sep="\n  ")
+    return 1 if wrong or unlike else 0
 
 
 if __name__ == "__main__":
