@@ -46,6 +46,6 @@ spot_numbers (Some x) = (x.0, awaits_code x.1)
 abbrev pub numbers_after : Profile → List ℕ → ℕ × ℕ
 numbers_after p bytes = spot_numbers (spot_after p bytes)
 
--- The same two numbers in a place.
+-- The number of the section in a place, and that of the part of the format.
 abbrev pub numbers_in : Place → ℕ × ℕ
 numbers_in place = (place.section, place.awaits)

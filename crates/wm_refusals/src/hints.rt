@@ -131,11 +131,11 @@ pub struct Hint<'a> {
     pub awaited: &'a str,
     /// The byte, such as `fc`, or the first and the last one, such as `c0 to c4`.
     pub bytes: &'a str,
-    /// What it begins in a later version of the standard.
+    /// Names the construct that the byte begins in a later version of the standard.
     pub begins: &'a str,
     /// The features that this needs, with commas between them: the words of `--features`, or else LLVM's.
     pub feature: &'a str,
-    /// What admits it, or how to avoid it.
+    /// Says how to admit it, or how to avoid it.
     pub remedy: &'a str,
 }
 

@@ -31,7 +31,7 @@ fn begun(rt: &impl Abort, alloc: Global, profile: &str, byte: &str) -> String {
     shown(rt, alloc, op_of(profile, byte_of(rt, byte)))
 }
 
-// What the first of two words, a feature, has behind FC at the number of the second.
+// Returns the class of the op behind FC with the number in the second word, under the feature in the first word.
 fn behind(rt: &impl Abort, alloc: Global, words: &str) -> String {
     let (feature, number) = word_of(words);
     let profile = match feature {
