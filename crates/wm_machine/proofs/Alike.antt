@@ -19,7 +19,7 @@ use Rattle.wm_machine.specs.Sinks.{and_then}
 use Rattle.wm_machine.specs.exact.Steps.{step_of}
 use Rattle.wm_machine.specs.exact.TwoSinks.{after_both}
 use Rattle.wm_machine.specs.exact.Runs.{name_item, plain_item}
-use Rattle.wm_machine.specs.exact.Live.{Live, live_at_start, answer_at_end, answer_at_end_of, effect_of_maybe, name_taken, event_effect, live_or_refused, live_from, live_byte, decoder_after}
+use Rattle.wm_machine.specs.exact.Live.{answer_between, Live, live_at_start, answer_at_end, answer_at_end_of, effect_of_maybe, name_taken, event_effect, live_or_refused, live_from, live_byte, decoder_after}
 
 -- an item whose name, if it has one, is UTF-8: a decoder gives no other
 abbrev pub IsGiven : Item → Type 0
@@ -131,8 +131,11 @@ module _ {H K : Type 0} (f : H → Item → Result H Why) (g : K → Item → Re
   EndAlike _ _ = ⊥
 
   ended_alike : (m : Machine) (h : H) (q : H × K) (n : ℕ) → q.0 ≡ h → EndAlike (answer_at_end_of m h n) (answer_at_end_of m q n)
-  ended_alike (machine.Between last zero) h q n e = e
-  ended_alike (machine.Between last (suc f)) h q n e = refl
+  ended_alike (machine.Between last counts) h q n e = between counts.functions
+    where
+      between : (f : ℕ) → EndAlike (answer_between f h n) (answer_between f q n)
+      between zero = e
+      between (suc f) = refl
   ended_alike (machine.Refused w) h q n e = refl
   ended_alike m h q n e = refl
 

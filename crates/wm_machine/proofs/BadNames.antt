@@ -18,6 +18,7 @@ use Rattle.wm_syntax.specs.declared.types.ValType.{ValType}
 use Rattle.wm_syntax.specs.declared.instructions.Op.{Op}
 use Rattle.wm_machine.specs.declared.machine.NameKind.{NameKind}
 use Rattle.wm_machine.specs.declared.machine.NameKind.TheVariants as name
+use Rattle.wm_machine.specs.declared.machine.Counts.{Counts}
 use Rattle.wm_machine.specs.declared.machine.InCustom.TheVariants as custom
 use Rattle.wm_machine.specs.declared.machine.Machine.{Machine}
 use Rattle.wm_machine.specs.declared.machine.Machine.TheVariants as machine
@@ -50,7 +51,7 @@ use Rattle.wm_machine.specs.exact.Members.{section_kind_of, member_at_start}
 use Rattle.wm_machine.specs.exact.ValueSteps.{value_type_of, global_type_push, value_push}
 use Rattle.wm_machine.specs.exact.ExpressionSteps.{start, expression_step}
 use Rattle.wm_machine.specs.exact.MemberSteps.{on_number, on_value, on_type, with_item_given, after_param, after_result, after_name, after_length, functions_or_over, index_item, after_index, after_constant, op_event, data_or_over, list_or_over, entry_step, member_in_entry, member_step}
-use Rattle.wm_machine.specs.exact.Steps.{custom_after_length, machine_in_custom, machine_in_member, machine_after_count, machine_after_paired_count, after_count, begun_section, machine_if_rising, section_start, machine_in_contents, after_size, custom_size, header_step, step_of}
+use Rattle.wm_machine.specs.exact.Steps.{counts_in, begun_last, custom_after_length, machine_in_custom, machine_in_member, machine_after_count, machine_after_paired_count, after_count, begun_section, machine_if_rising, section_start, machine_in_contents, after_size, custom_size, header_step, step_of}
 use Rattle.wm_machine.specs.exact.Runs.{name_item, byte_read, ByteRead, MachineState, zone_of, after_byte, state_after, state_at_start}
 use Rattle.wm_machine.proofs.ByteLists.{front_bytes}
 use Rattle.wm_machine.proofs.EntryBytes.{OnlyParts, entry_parts}
@@ -87,9 +88,9 @@ NoneBegun (at.Name of n) = ⊥
 NoneBegun q = Unit {0}
 
 abbrev NoneBegunIn : Machine → Type 0
-NoneBegunIn (machine.Section of functions more left q) = NoneBegun q
-NoneBegunIn (machine.Custom last functions more (custom.Length r)) = r ≡ fresh
-NoneBegunIn (machine.Custom last functions more (custom.Name n)) = ⊥
+NoneBegunIn (machine.Section of counts more left q) = NoneBegun q
+NoneBegunIn (machine.Custom last counts more (custom.Length r)) = r ≡ fresh
+NoneBegunIn (machine.Custom last counts more (custom.Name n)) = ⊥
 NoneBegunIn m = Unit {0}
 
 -- outside names a byte is none of one, and none has begun after it
@@ -211,55 +212,58 @@ member_passes p c at.Over i = (tt, tt)
 member_passes p c (at.Failed w) i = (tt, tt)
 
 -- the machine
-framed_none : (of : SectionKind) (functions bytes left : ℕ) (q : InMember) → NoneBegun q → NoneBegunIn (machine_in_member of functions bytes left q)
-framed_none of functions bytes left (at.Failed w) h = tt
-framed_none of functions zero zero at.Over h = tt
-framed_none of functions (suc n) zero at.Over h = tt
-framed_none of functions zero (suc l) at.Over h = tt
-framed_none of functions (suc n) (suc l) at.Over h = start_none of
-framed_none of functions zero left q h = tt
-framed_none of functions (suc n) left q h = h
+framed_none : (of : SectionKind) (counts : Counts) (bytes left : ℕ) (q : InMember) → NoneBegun q → NoneBegunIn (machine_in_member of counts bytes left q)
+framed_none of counts bytes left (at.Failed w) h = tt
+framed_none of counts zero zero at.Over h = tt
+framed_none of counts (suc n) zero at.Over h = tt
+framed_none of counts zero (suc l) at.Over h = tt
+framed_none of counts (suc n) (suc l) at.Over h = start_none of
+framed_none of counts zero left q h = tt
+framed_none of counts (suc n) left q h = h
 
-listed_none : (of : SectionKind) (functions bytes n : ℕ) → NoneBegunIn (machine_after_count of functions bytes n)
-listed_none of functions bytes zero = framed_none of functions bytes zero at.Over tt
-listed_none of functions bytes (suc n) = framed_none of functions bytes n (member_at_start of) (start_none of)
+listed_none : (of : SectionKind) (counts : Counts) (bytes n : ℕ) → NoneBegunIn (machine_after_count of counts bytes n)
+listed_none of counts bytes zero = framed_none of counts bytes zero at.Over tt
+listed_none of counts bytes (suc n) = framed_none of counts bytes n (member_at_start of) (start_none of)
 
-paired_none : (of : SectionKind) (functions bytes n : ℕ) → NoneBegunIn (machine_after_paired_count of functions bytes n)
-paired_none section_kind.Function functions bytes n = listed_none section_kind.Function n bytes n
-paired_none section_kind.Code functions bytes n = cond_both (nat_eq n functions) _ _ NoneBegunIn (λ _. listed_none section_kind.Code 0 bytes n) (λ _. tt)
-paired_none of functions bytes n = listed_none of functions bytes n
+paired_none : (of : SectionKind) (counts : Counts) (bytes n : ℕ) → NoneBegunIn (machine_after_paired_count of counts bytes n)
+paired_none section_kind.Function counts bytes n = listed_none section_kind.Function (counts_in section_kind.Function counts n) bytes n
+paired_none section_kind.Code counts bytes n = cond_both (nat_eq n counts.functions) _ _ NoneBegunIn (λ _. listed_none section_kind.Code (counts_in section_kind.Code counts n) bytes n) (λ _. tt)
+paired_none of counts bytes n = listed_none of (counts_in of counts n) bytes n
 
-contents_none : (of : SectionKind) (functions more : ℕ) → NoneBegunIn (machine_in_contents of functions more)
-contents_none section_kind.Start functions more = tt
-contents_none of functions more = tt
+contents_none : (of : SectionKind) (counts : Counts) (more : ℕ) → NoneBegunIn (machine_in_contents of counts more)
+contents_none section_kind.Start counts more = tt
+contents_none of counts more = tt
 
-size_none : (of : SectionKind) (functions n : ℕ) → NoneBegunIn (after_size of functions n)
-size_none of functions zero = tt
-size_none of functions (suc n) = contents_none of functions n
+size_none : (of : SectionKind) (counts : Counts) (n : ℕ) → NoneBegunIn (after_size of counts n)
+size_none of counts zero = tt
+size_none of counts (suc n) = contents_none of counts n
 
-custom_none : (last functions n : ℕ) → NoneBegunIn (custom_size last functions n)
-custom_none last functions zero = tt
-custom_none last functions (suc n) = refl
+custom_none : (last : ℕ) (counts : Counts) (n : ℕ) → NoneBegunIn (custom_size last counts n)
+custom_none last counts zero = tt
+custom_none last counts (suc n) = refl
 
-skip_none : (last functions n : ℕ) → NoneBegunIn (machine_in_custom last functions n custom.Skip)
-skip_none last functions zero = tt
-skip_none last functions (suc n) = tt
+skip_none : (last : ℕ) (counts : Counts) (n : ℕ) → NoneBegunIn (machine_in_custom last counts n custom.Skip)
+skip_none last counts zero = tt
+skip_none last counts (suc n) = tt
 
 abbrev MachinePasses : Machine × Event → Type 0
 MachinePasses = Passes NoneBegunIn
 
-begun_passes : (of : SectionKind) (functions : ℕ) → MachinePasses (begun_section of functions)
-begun_passes section_kind.Segment zero = (tt, tt)
-begun_passes section_kind.Segment (suc n) = (tt, tt)
-begun_passes of functions = (tt, tt)
+begun_passes : (of : SectionKind) (counts : Counts) → MachinePasses (begun_section of counts)
+begun_passes section_kind.Segment counts = at_last counts.functions
+  where
+    at_last : (n : ℕ) → MachinePasses (begun_last n counts)
+    at_last zero = (tt, tt)
+    at_last (suc n) = (tt, tt)
+begun_passes of counts = (tt, tt)
 
-rising_passes : (last functions id : ℕ) (q : Option SectionKind) → MachinePasses (machine_if_rising last functions id q)
-rising_passes last functions id None = (tt, tt)
-rising_passes last functions id (Some of) = cond_both (nat_le id last) _ _ MachinePasses (λ _. (tt, tt)) (λ _. begun_passes of functions)
+rising_passes : (last : ℕ) (counts : Counts) (id : ℕ) (q : Option SectionKind) → MachinePasses (machine_if_rising last counts id q)
+rising_passes last counts id None = (tt, tt)
+rising_passes last counts id (Some of) = cond_both (nat_le id last) _ _ MachinePasses (λ _. (tt, tt)) (λ _. begun_passes of counts)
 
-starts_passes : (last functions c : ℕ) → MachinePasses (section_start last functions c)
-starts_passes last functions zero = (tt, tt)
-starts_passes last functions (suc m) = rising_passes last functions (suc m) (section_kind_of (suc m))
+starts_passes : (last : ℕ) (counts : Counts) (c : ℕ) → MachinePasses (section_start last counts c)
+starts_passes last counts zero = (tt, tt)
+starts_passes last counts (suc m) = rising_passes last counts (suc m) (section_kind_of (suc m))
 
 header_passes : (n c : ℕ) → MachinePasses (header_step n c)
 header_passes n c =
@@ -270,31 +274,31 @@ header_passes n c =
     (λ _. cond_both (nat_lt n 4) _ _ P (λ _. (tt, tt)) (λ _. (tt, tt))))
     (λ _. (tt, tt))
 
-count_passes : (of : SectionKind) (functions more : ℕ) (q : Step ℕ × Partial) → MachinePasses (after_count of functions more q)
-count_passes of functions zero (step.More, s) = (tt, tt)
-count_passes of functions (suc n) (step.More, s) = (tt, tt)
-count_passes of functions more (step.Done n, s) = (paired_none of functions more n, tt)
-count_passes of functions more (step.Bad, s) = (tt, tt)
+count_passes : (of : SectionKind) (counts : Counts) (more : ℕ) (q : Step ℕ × Partial) → MachinePasses (after_count of counts more q)
+count_passes of counts zero (step.More, s) = (tt, tt)
+count_passes of counts (suc n) (step.More, s) = (tt, tt)
+count_passes of counts more (step.Done n, s) = (paired_none of counts more n, tt)
+count_passes of counts more (step.Bad, s) = (tt, tt)
 
 abbrev IsElsewhere : Machine → Type 0
-IsElsewhere (machine.Section of functions more left q) = IsElse q
-IsElsewhere (machine.Custom last functions more (custom.Length r)) = ⊥
-IsElsewhere (machine.Custom last functions more (custom.Name n)) = ⊥
+IsElsewhere (machine.Section of counts more left q) = IsElse q
+IsElsewhere (machine.Custom last counts more (custom.Length r)) = ⊥
+IsElsewhere (machine.Custom last counts more (custom.Name n)) = ⊥
 IsElsewhere m = Unit {0}
 
 step_passes : (p : Profile) (m : Machine) (c : ℕ) → IsElsewhere m → MachinePasses (step_of p m c)
 step_passes p (machine.Header n) c i = header_passes n c
-step_passes p (machine.Between last functions) c i = starts_passes last functions c
-step_passes p (machine.CustomSize last functions r) c i =
-    number_passes NoneBegunIn (unsigned_push 32 r c) (λ s. machine.CustomSize last functions s) (λ n. (custom_size last functions n, event.Nothing)) machine.Refused (λ s. tt) (λ n. (custom_none last functions n, tt)) tt
-step_passes p (machine.Custom last functions more (custom.Length r)) c i = absurd i
-step_passes p (machine.Custom last functions more (custom.Name n)) c i = absurd i
-step_passes p (machine.Custom last functions more custom.Skip) c i = (skip_none last functions more, tt)
-step_passes p (machine.Custom last functions more (custom.Failed w)) c i = (tt, tt)
-step_passes p (machine.Size of functions r) c i =
-    number_passes NoneBegunIn (unsigned_push 32 r c) (λ s. machine.Size of functions s) (λ n. (after_size of functions n, event.Nothing)) machine.Refused (λ s. tt) (λ n. (size_none of functions n, tt)) tt
-step_passes p (machine.Count of functions more r) c i = count_passes of functions more (unsigned_push 32 r c)
-step_passes p (machine.Section of functions more left q) c i = let h = member_passes p c q i in (framed_none of functions more left (member_step p q c).0 h.0, h.1)
+step_passes p (machine.Between last counts) c i = starts_passes last counts c
+step_passes p (machine.CustomSize last counts r) c i =
+    number_passes NoneBegunIn (unsigned_push 32 r c) (λ s. machine.CustomSize last counts s) (λ n. (custom_size last counts n, event.Nothing)) machine.Refused (λ s. tt) (λ n. (custom_none last counts n, tt)) tt
+step_passes p (machine.Custom last counts more (custom.Length r)) c i = absurd i
+step_passes p (machine.Custom last counts more (custom.Name n)) c i = absurd i
+step_passes p (machine.Custom last counts more custom.Skip) c i = (skip_none last counts more, tt)
+step_passes p (machine.Custom last counts more (custom.Failed w)) c i = (tt, tt)
+step_passes p (machine.Size of counts r) c i =
+    number_passes NoneBegunIn (unsigned_push 32 r c) (λ s. machine.Size of counts s) (λ n. (after_size of counts n, event.Nothing)) machine.Refused (λ s. tt) (λ n. (size_none of counts n, tt)) tt
+step_passes p (machine.Count of counts more r) c i = count_passes of counts more (unsigned_push 32 r c)
+step_passes p (machine.Section of counts more left q) c i = let h = member_passes p c q i in (framed_none of counts more left (member_step p q c).0 h.0, h.1)
 step_passes p (machine.Refused w) c i = (tt, tt)
 
 -- after such a byte nothing is kept of a name, nor after the last byte of one
@@ -339,24 +343,24 @@ record AtName (p : Profile) (from : ℕ → Machine) (at : ℕ → ℕ → Machi
 
 module _ (p : Profile) where
   abbrev IsNamed : List ℕ → Machine → List ℕ → Type 0
-  IsNamed b (machine.Section of functions more left (at.NameLength k r)) y = AtLength p (λ m. machine.Section of functions m left (at.NameLength k fresh)) r b
-  IsNamed b (machine.Section of functions more left (at.Name k n)) y = AtName p (λ m. machine.Section of functions m left (at.NameLength k fresh)) (λ m l. machine.Section of functions m left (at.Name k l)) n y b
-  IsNamed b (machine.Custom last functions more (custom.Length r)) y = AtLength p (λ m. machine.Custom last functions m (custom.Length fresh)) r b
-  IsNamed b (machine.Custom last functions more (custom.Name n)) y = AtName p (λ m. machine.Custom last functions m (custom.Length fresh)) (λ m l. machine.Custom last functions m (custom.Name l)) n y b
+  IsNamed b (machine.Section of counts more left (at.NameLength k r)) y = AtLength p (λ m. machine.Section of counts m left (at.NameLength k fresh)) r b
+  IsNamed b (machine.Section of counts more left (at.Name k n)) y = AtName p (λ m. machine.Section of counts m left (at.NameLength k fresh)) (λ m l. machine.Section of counts m left (at.Name k l)) n y b
+  IsNamed b (machine.Custom last counts more (custom.Length r)) y = AtLength p (λ m. machine.Custom last counts m (custom.Length fresh)) r b
+  IsNamed b (machine.Custom last counts more (custom.Name n)) y = AtName p (λ m. machine.Custom last counts m (custom.Length fresh)) (λ m l. machine.Custom last counts m (custom.Name l)) n y b
   IsNamed b m y = Unit {0}
 
   length_here : (b : List ℕ) (from : ℕ → Machine) (room : ℕ) (r : Partial) → r ≡ fresh → state_after p state_at_start b ≡ record { machine = from room; name = [] } → AtLength p from r b
   length_here b from room r new e = record { before = b; begun = []; room = room; whole = sym (append-nil b); there = e; number = subst (λ s. UnsignedAfter 32 s []) (sym new) (unsigned_fresh 32 (omega arith)) }
 
   begins_here : (b : List ℕ) (m : Machine) → state_after p state_at_start b ≡ record { machine = m; name = [] } → NoneBegunIn m → IsNamed b m []
-  begins_here b (machine.Section of functions more left (at.NameLength k r)) e h =
-      length_here b (λ m. machine.Section of functions m left (at.NameLength k fresh)) more r h (e ∙ ap (λ s. record { machine = machine.Section of functions more left (at.NameLength k s); name = [] }) h)
-  begins_here b (machine.Section of functions more left (at.Name k n)) e h = absurd h
-  begins_here b (machine.Section of functions more left q) e h = tt
-  begins_here b (machine.Custom last functions more (custom.Length r)) e h =
-      length_here b (λ m. machine.Custom last functions m (custom.Length fresh)) more r h (e ∙ ap (λ s. record { machine = machine.Custom last functions more (custom.Length s); name = [] }) h)
-  begins_here b (machine.Custom last functions more (custom.Name n)) e h = absurd h
-  begins_here b (machine.Custom last functions more q) e h = tt
+  begins_here b (machine.Section of counts more left (at.NameLength k r)) e h =
+      length_here b (λ m. machine.Section of counts m left (at.NameLength k fresh)) more r h (e ∙ ap (λ s. record { machine = machine.Section of counts more left (at.NameLength k s); name = [] }) h)
+  begins_here b (machine.Section of counts more left (at.Name k n)) e h = absurd h
+  begins_here b (machine.Section of counts more left q) e h = tt
+  begins_here b (machine.Custom last counts more (custom.Length r)) e h =
+      length_here b (λ m. machine.Custom last counts m (custom.Length fresh)) more r h (e ∙ ap (λ s. record { machine = machine.Custom last counts more (custom.Length s); name = [] }) h)
+  begins_here b (machine.Custom last counts more (custom.Name n)) e h = absurd h
+  begins_here b (machine.Custom last counts more q) e h = tt
   begins_here b m e h = tt
 
   anew : (b : List ℕ) (s : MachineState) → state_after p state_at_start b ≡ s → NoneBegunIn s.machine → s.name ≡ [] → IsNamed b s.machine s.name
@@ -409,32 +413,32 @@ module _ (p : Profile) where
     quietly : (h : ByteRead Machine) → Comes h → Quiet h → Known h
     quietly h e q = anew (b ++ c ∷ []) (record { machine = h.at; name = h.name }) e q.0 q.1
 
-    abbrev length_read : SectionKind → (functions more left : ℕ) → NameKind → List ℕ → Step ℕ × Partial → ByteRead Machine
-    length_read of functions more left k y q =
+    abbrev length_read : SectionKind → (counts : Counts) (more left : ℕ) → NameKind → List ℕ → Step ℕ × Partial → ByteRead Machine
+    length_read of counts more left k y q =
         let x = on_number q (λ s. at.NameLength k s) (after_length k) at.Failed in
-        byte_read machine.Refused outside y c (machine_in_member of functions more left x.0, x.1)
+        byte_read machine.Refused outside y c (machine_in_member of counts more left x.0, x.1)
 
-    of_member : (of : SectionKind) (functions more left : ℕ) (k : NameKind) (r : Partial) (y : List ℕ) (h : AtLength p (λ m. machine.Section of functions m left (at.NameLength k fresh)) r b) (q : Step ℕ × Partial) → Numbers (h.begun ++ c ∷ []) q
-        → Comes (length_read of functions more left k y q) → Known (length_read of functions more left k y q)
-    of_member of functions zero left k r y h (step.More, s) u e = tt
-    of_member of functions (suc m) left k r y h (step.More, s) u e = length_goes (λ m. machine.Section of functions m left (at.NameLength k fresh)) r s h u
-    of_member of functions more left k r y h (step.Done zero, s) u e = begins_here (b ++ c ∷ []) (machine_in_member of functions more left (after_name k)) e (framed_none of functions more left (after_name k) (name_none k))
-    of_member of functions zero left k r y h (step.Done (suc n), s) u e = tt
-    of_member of functions (suc m) left k r y h (step.Done (suc n), s) u e = name_begins (λ m. machine.Section of functions m left (at.NameLength k fresh)) (λ m l. machine.Section of functions m left (at.Name k l)) r m n h u e
-    of_member of functions more left k r y h (step.Bad, s) u e = tt
+    of_member : (of : SectionKind) (counts : Counts) (more left : ℕ) (k : NameKind) (r : Partial) (y : List ℕ) (h : AtLength p (λ m. machine.Section of counts m left (at.NameLength k fresh)) r b) (q : Step ℕ × Partial) → Numbers (h.begun ++ c ∷ []) q
+        → Comes (length_read of counts more left k y q) → Known (length_read of counts more left k y q)
+    of_member of counts zero left k r y h (step.More, s) u e = tt
+    of_member of counts (suc m) left k r y h (step.More, s) u e = length_goes (λ m. machine.Section of counts m left (at.NameLength k fresh)) r s h u
+    of_member of counts more left k r y h (step.Done zero, s) u e = begins_here (b ++ c ∷ []) (machine_in_member of counts more left (after_name k)) e (framed_none of counts more left (after_name k) (name_none k))
+    of_member of counts zero left k r y h (step.Done (suc n), s) u e = tt
+    of_member of counts (suc m) left k r y h (step.Done (suc n), s) u e = name_begins (λ m. machine.Section of counts m left (at.NameLength k fresh)) (λ m l. machine.Section of counts m left (at.Name k l)) r m n h u e
+    of_member of counts more left k r y h (step.Bad, s) u e = tt
 
-    abbrev custom_read : (last functions more : ℕ) → List ℕ → Step ℕ × Partial → ByteRead Machine
-    custom_read last functions more y q =
+    abbrev custom_read : (last : ℕ) (counts : Counts) (more : ℕ) → List ℕ → Step ℕ × Partial → ByteRead Machine
+    custom_read last counts more y q =
         let x = on_number q custom.Length custom_after_length custom.Failed in
-        byte_read machine.Refused outside y c (machine_in_custom last functions more x.0, x.1)
+        byte_read machine.Refused outside y c (machine_in_custom last counts more x.0, x.1)
 
-    of_custom : (last functions more : ℕ) (r : Partial) (y : List ℕ) (h : AtLength p (λ m. machine.Custom last functions m (custom.Length fresh)) r b) (q : Step ℕ × Partial) → Numbers (h.begun ++ c ∷ []) q → Comes (custom_read last functions more y q) → Known (custom_read last functions more y q)
-    of_custom last functions zero r y h (step.More, s) u e = tt
-    of_custom last functions (suc m) r y h (step.More, s) u e = length_goes (λ m. machine.Custom last functions m (custom.Length fresh)) r s h u
-    of_custom last functions more r y h (step.Done zero, s) u e = begins_here (b ++ c ∷ []) (machine_in_custom last functions more custom.Skip) e (skip_none last functions more)
-    of_custom last functions zero r y h (step.Done (suc n), s) u e = tt
-    of_custom last functions (suc m) r y h (step.Done (suc n), s) u e = name_begins (λ m. machine.Custom last functions m (custom.Length fresh)) (λ m l. machine.Custom last functions m (custom.Name l)) r m n h u e
-    of_custom last functions more r y h (step.Bad, s) u e = tt
+    of_custom : (last : ℕ) (counts : Counts) (more : ℕ) (r : Partial) (y : List ℕ) (h : AtLength p (λ m. machine.Custom last counts m (custom.Length fresh)) r b) (q : Step ℕ × Partial) → Numbers (h.begun ++ c ∷ []) q → Comes (custom_read last counts more y q) → Known (custom_read last counts more y q)
+    of_custom last counts zero r y h (step.More, s) u e = tt
+    of_custom last counts (suc m) r y h (step.More, s) u e = length_goes (λ m. machine.Custom last counts m (custom.Length fresh)) r s h u
+    of_custom last counts more r y h (step.Done zero, s) u e = begins_here (b ++ c ∷ []) (machine_in_custom last counts more custom.Skip) e (skip_none last counts more)
+    of_custom last counts zero r y h (step.Done (suc n), s) u e = tt
+    of_custom last counts (suc m) r y h (step.Done (suc n), s) u e = name_begins (λ m. machine.Custom last counts m (custom.Length fresh)) (λ m l. machine.Custom last counts m (custom.Name l)) r m n h u e
+    of_custom last counts more r y h (step.Bad, s) u e = tt
 
     abbrev read : Machine → List ℕ → ByteRead Machine
     read m y = byte_read machine.Refused (zone_of m) y c (step_of p m c)
@@ -489,25 +493,25 @@ module _ (p : Profile) where
   abbrev Begins : Form ℕ → Machine → Type 0
   Begins W m = PartsBegin W (MachineRest loose p m []) (MachineRest strict p m [])
 
-  length_begins : (of : SectionKind) (f more left : ℕ) (k : NameKind) → Begins IsName (machine.Section of f more left (at.NameLength k fresh))
+  length_begins : (of : SectionKind) (f : Counts) (more left : ℕ) (k : NameKind) → Begins IsName (machine.Section of f more left (at.NameLength k fresh))
   length_begins of f more left k =
       let L : MarkedForm = TextLeft loose fresh (name_item k) in
       let S : MarkedForm = TextLeft strict fresh (name_item k) in
       section_begins p IsName of f more left (at.NameLength k fresh) [] (then_begins IsName L S (AfterName loose p k) (AfterName strict p k) (whole_begins (name_item k)) (name_comes p k))
 
-  member_begins : (of : SectionKind) (f more left : ℕ) (k : NameKind) (n : ℕ) → Begins (Text (suc n)) (machine.Section of f more left (at.Name k n))
+  member_begins : (of : SectionKind) (f : Counts) (more left : ℕ) (k : NameKind) (n : ℕ) → Begins (Text (suc n)) (machine.Section of f more left (at.Name k n))
   member_begins of f more left k n =
       let L : MarkedForm = NameLeft loose [] (suc n) (name_item k) in
       let S : MarkedForm = NameLeft strict [] (suc n) (name_item k) in
       section_begins p (Text (suc n)) of f more left (at.Name k n) [] (then_begins (Text (suc n)) L S (AfterName loose p k) (AfterName strict p k) (left_begins (suc n) (name_item k)) (name_comes p k))
 
-  filling : (W : Form ℕ) (last f n : ℕ) (L S : MarkedForm) → PartsBegin W L S → PartsBegin W (Then (Filled loose n L) (Later loose p last f)) (Then (Filled strict n S) (Later strict p last f))
+  filling : (W : Form ℕ) (last : ℕ) (f : Counts) (n : ℕ) (L S : MarkedForm) → PartsBegin W L S → PartsBegin W (Then (Filled loose n L) (Later loose p last f)) (Then (Filled strict n S) (Later strict p last f))
   filling W last f n L S v = then_begins W (Filled loose n L) (Filled strict n S) (Later loose p last f) (Later strict p last f) (filled_begins W n L S v) (some_later p last f)
 
-  custom_length_begins : (last f more : ℕ) → Begins IsName (machine.Custom last f more (custom.Length fresh))
+  custom_length_begins : (last : ℕ) (f : Counts) (more : ℕ) → Begins IsName (machine.Custom last f more (custom.Length fresh))
   custom_length_begins last f more = filling IsName last f (suc more) (TextLeft loose fresh unnamed) (TextLeft strict fresh unnamed) (whole_begins unnamed)
 
-  custom_begins : (last f more n : ℕ) → Begins (Text (suc n)) (machine.Custom last f more (custom.Name n))
+  custom_begins : (last : ℕ) (f : Counts) (more n : ℕ) → Begins (Text (suc n)) (machine.Custom last f more (custom.Name n))
   custom_begins last f more n = filling (Text (suc n)) last f (suc more) (NameLeft loose [] (suc n) unnamed) (NameLeft strict [] (suc n) unnamed) (left_begins (suc n) unnamed)
 
   -- what must stand, by the state

@@ -57,6 +57,7 @@ use Rattle.wm_syntax.specs.Leb128.{Signed, Unsigned}
 use Rattle.wm_syntax.proofs.Readers.{unsigned_fresh, signed_fresh, signed_law, Goes as NumberGoes}
 use Rattle.wm_machine.specs.declared.machine.NameKind.{NameKind}
 use Rattle.wm_machine.specs.declared.machine.NameKind.TheVariants as name
+use Rattle.wm_machine.specs.declared.machine.Counts.{Counts}
 use Rattle.wm_machine.specs.declared.machine.InCustom.{InCustom}
 use Rattle.wm_machine.specs.declared.machine.InCustom.TheVariants as custom
 use Rattle.wm_machine.specs.declared.machine.Machine.{Machine}
@@ -80,7 +81,7 @@ use Rattle.wm_machine.specs.Sections.{header}
 use Rattle.wm_machine.specs.Grammar.{strict}
 use Rattle.wm_machine.specs.exact.Members.{section_kind_of, member_at_start}
 use Rattle.wm_machine.specs.exact.MemberSteps.{on_number, on_value, on_type, with_item_given, after_param, after_result, after_name, after_length, name_step, functions_or_over, index_item, after_index, constant_over, after_constant, data_or_over, list_or_over, runs_or_body, entry_after_op, entry_step, member_in_entry, member_step}
-use Rattle.wm_machine.specs.exact.Steps.{custom_after_length, machine_in_custom, custom_step, machine_in_member, machine_after_count, machine_after_paired_count, after_count, begun_section, machine_if_rising, section_start, machine_in_contents, after_size, custom_size, header_step, step_of}
+use Rattle.wm_machine.specs.exact.Steps.{counts_in, begun_last, custom_after_length, machine_in_custom, custom_step, machine_in_member, machine_after_count, machine_after_paired_count, after_count, begun_section, machine_if_rising, section_start, machine_in_contents, after_size, custom_size, header_step, step_of}
 use Rattle.wm_machine.specs.exact.Runs.{byte_read, ByteRead, MachineState, zone_of, after_byte, state_after, marks, state_at_start}
 use Rattle.wm_machine.specs.exact.Live.{IsRefused}
 use Rattle.wm_machine.proofs.Numbers.{NumberNext, number_next}
@@ -631,41 +632,41 @@ module _ (p : Profile) where
   begin_new section_kind.Code = refl
   begin_new section_kind.Segment = refl
 
-  section_keeps : (of : SectionKind) (functions bytes left : ℕ) (x : InMember) (i : Integer) (s : Partial) → num_member p x ≡ Some (i, s) → Kept (machine_in_member of functions bytes left x) i s
-  section_keeps of functions bytes left (at.Failed w) i s e = absurd (cc)
-  section_keeps of functions zero zero at.Over i s e = absurd (cc)
-  section_keeps of functions (suc n) zero at.Over i s e = absurd (cc)
-  section_keeps of functions zero (suc l) at.Over i s e = absurd (cc)
-  section_keeps of functions (suc n) (suc l) at.Over i s e = absurd (cc)
-  section_keeps of functions zero left x i s e = inr (why.SectionEnd, refl, λ e. cc)
-  section_keeps of functions (suc n) left x i s e = inl (e, λ e. cc)
+  section_keeps : (of : SectionKind) (counts : Counts) (bytes left : ℕ) (x : InMember) (i : Integer) (s : Partial) → num_member p x ≡ Some (i, s) → Kept (machine_in_member of counts bytes left x) i s
+  section_keeps of counts bytes left (at.Failed w) i s e = absurd (cc)
+  section_keeps of counts zero zero at.Over i s e = absurd (cc)
+  section_keeps of counts (suc n) zero at.Over i s e = absurd (cc)
+  section_keeps of counts zero (suc l) at.Over i s e = absurd (cc)
+  section_keeps of counts (suc n) (suc l) at.Over i s e = absurd (cc)
+  section_keeps of counts zero left x i s e = inr (why.SectionEnd, refl, λ e. cc)
+  section_keeps of counts (suc n) left x i s e = inl (e, λ e. cc)
 
-  section_new : (of : SectionKind) (functions bytes left : ℕ) (x : InMember) → MemberNew x → MachineNew (machine_in_member of functions bytes left x)
-  section_new of functions bytes left (at.Failed w) h = (tt, λ e. h.1 (ap at.Failed (let s : w ≡ why.BadNumber = cc in s)))
-  section_new of functions zero zero at.Over h = (tt, λ e. cc)
-  section_new of functions (suc n) zero at.Over h = (tt, λ e. cc)
-  section_new of functions zero (suc l) at.Over h = (tt, λ e. cc)
-  section_new of functions (suc n) (suc l) at.Over h = (begin_new of, λ e. cc)
-  section_new of functions zero left x h = (tt, λ e. cc)
-  section_new of functions (suc n) left x h = (h.0, λ e. cc)
+  section_new : (of : SectionKind) (counts : Counts) (bytes left : ℕ) (x : InMember) → MemberNew x → MachineNew (machine_in_member of counts bytes left x)
+  section_new of counts bytes left (at.Failed w) h = (tt, λ e. h.1 (ap at.Failed (let s : w ≡ why.BadNumber = cc in s)))
+  section_new of counts zero zero at.Over h = (tt, λ e. cc)
+  section_new of counts (suc n) zero at.Over h = (tt, λ e. cc)
+  section_new of counts zero (suc l) at.Over h = (tt, λ e. cc)
+  section_new of counts (suc n) (suc l) at.Over h = (begin_new of, λ e. cc)
+  section_new of counts zero left x h = (tt, λ e. cc)
+  section_new of counts (suc n) left x h = (h.0, λ e. cc)
 
-  custom_keeps : (last functions n : ℕ) (x : InCustom) (i : Integer) (s : Partial) → num_custom x ≡ Some (i, s) → Kept (machine_in_custom last functions n x) i s
-  custom_keeps last functions n (custom.Failed w) i s e = absurd (cc)
-  custom_keeps last functions zero custom.Skip i s e = absurd (cc)
-  custom_keeps last functions zero (custom.Length r) i s e = inr (why.SectionEnd, refl, λ e. cc)
-  custom_keeps last functions zero (custom.Name m) i s e = absurd (cc)
-  custom_keeps last functions (suc n) custom.Skip i s e = absurd (cc)
-  custom_keeps last functions (suc n) (custom.Length r) i s e = inl (e, λ e. cc)
-  custom_keeps last functions (suc n) (custom.Name m) i s e = absurd (cc)
+  custom_keeps : (last : ℕ) (counts : Counts) (n : ℕ) (x : InCustom) (i : Integer) (s : Partial) → num_custom x ≡ Some (i, s) → Kept (machine_in_custom last counts n x) i s
+  custom_keeps last counts n (custom.Failed w) i s e = absurd (cc)
+  custom_keeps last counts zero custom.Skip i s e = absurd (cc)
+  custom_keeps last counts zero (custom.Length r) i s e = inr (why.SectionEnd, refl, λ e. cc)
+  custom_keeps last counts zero (custom.Name m) i s e = absurd (cc)
+  custom_keeps last counts (suc n) custom.Skip i s e = absurd (cc)
+  custom_keeps last counts (suc n) (custom.Length r) i s e = inl (e, λ e. cc)
+  custom_keeps last counts (suc n) (custom.Name m) i s e = absurd (cc)
 
-  custom_new : (last functions n : ℕ) (x : InCustom) → Settled custom.Failed num_custom x → MachineNew (machine_in_custom last functions n x)
-  custom_new last functions n (custom.Failed w) h = (tt, λ e. h.1 (ap custom.Failed (let s : w ≡ why.BadNumber = cc in s)))
-  custom_new last functions zero custom.Skip h = (tt, λ e. cc)
-  custom_new last functions zero (custom.Length r) h = (tt, λ e. cc)
-  custom_new last functions zero (custom.Name m) h = (tt, λ e. cc)
-  custom_new last functions (suc n) custom.Skip h = (tt, λ e. cc)
-  custom_new last functions (suc n) (custom.Length r) h = (h.0, λ e. cc)
-  custom_new last functions (suc n) (custom.Name m) h = (tt, λ e. cc)
+  custom_new : (last : ℕ) (counts : Counts) (n : ℕ) (x : InCustom) → Settled custom.Failed num_custom x → MachineNew (machine_in_custom last counts n x)
+  custom_new last counts n (custom.Failed w) h = (tt, λ e. h.1 (ap custom.Failed (let s : w ≡ why.BadNumber = cc in s)))
+  custom_new last counts zero custom.Skip h = (tt, λ e. cc)
+  custom_new last counts zero (custom.Length r) h = (tt, λ e. cc)
+  custom_new last counts zero (custom.Name m) h = (tt, λ e. cc)
+  custom_new last counts (suc n) custom.Skip h = (tt, λ e. cc)
+  custom_new last counts (suc n) (custom.Length r) h = (h.0, λ e. cc)
+  custom_new last counts (suc n) (custom.Name m) h = (tt, λ e. cc)
 
   start_member : (of : SectionKind) → MemberNew (member_at_start of)
   start_member section_kind.Type = (tt, λ e. cc)
@@ -680,41 +681,44 @@ module _ (p : Profile) where
   start_member section_kind.Code = (refl, λ e. cc)
   start_member section_kind.Segment = (refl, λ e. cc)
 
-  listed_new : (of : SectionKind) (functions bytes n : ℕ) → MachineNew (machine_after_count of functions bytes n)
-  listed_new of functions bytes zero = section_new of functions bytes zero at.Over (tt, λ e. cc)
-  listed_new of functions bytes (suc n) = section_new of functions bytes n (member_at_start of) (start_member of)
+  listed_new : (of : SectionKind) (counts : Counts) (bytes n : ℕ) → MachineNew (machine_after_count of counts bytes n)
+  listed_new of counts bytes zero = section_new of counts bytes zero at.Over (tt, λ e. cc)
+  listed_new of counts bytes (suc n) = section_new of counts bytes n (member_at_start of) (start_member of)
 
-  paired_new : (of : SectionKind) (functions bytes n : ℕ) → MachineNew (machine_after_paired_count of functions bytes n)
-  paired_new section_kind.Function functions bytes n = listed_new section_kind.Function n bytes n
-  paired_new section_kind.Code functions bytes n = cond_both (nat_eq n functions) _ _ MachineNew (λ _. listed_new section_kind.Code 0 bytes n) (λ _. (tt, λ e. cc))
-  paired_new of functions bytes n = listed_new of functions bytes n
+  paired_new : (of : SectionKind) (counts : Counts) (bytes n : ℕ) → MachineNew (machine_after_paired_count of counts bytes n)
+  paired_new section_kind.Function counts bytes n = listed_new section_kind.Function (counts_in section_kind.Function counts n) bytes n
+  paired_new section_kind.Code counts bytes n = cond_both (nat_eq n counts.functions) _ _ MachineNew (λ _. listed_new section_kind.Code (counts_in section_kind.Code counts n) bytes n) (λ _. (tt, λ e. cc))
+  paired_new of counts bytes n = listed_new of (counts_in of counts n) bytes n
 
-  count_law : (of : SectionKind) (functions more : ℕ) (q : Step ℕ × Partial) → Pushed machine.Refused (num_machine p) u32 q (after_count of functions more q).0
-  count_law of functions zero (step.More, s) = inr (why.SectionEnd, refl, λ e. cc)
-  count_law of functions (suc n) (step.More, s) = inl (refl, λ e. cc)
-  count_law of functions more (step.Done n, s) = paired_new of functions more n
-  count_law of functions more (step.Bad, s) = refl
+  count_law : (of : SectionKind) (counts : Counts) (more : ℕ) (q : Step ℕ × Partial) → Pushed machine.Refused (num_machine p) u32 q (after_count of counts more q).0
+  count_law of counts zero (step.More, s) = inr (why.SectionEnd, refl, λ e. cc)
+  count_law of counts (suc n) (step.More, s) = inl (refl, λ e. cc)
+  count_law of counts more (step.Done n, s) = paired_new of counts more n
+  count_law of counts more (step.Bad, s) = refl
 
-  contents_new : (of : SectionKind) (functions more : ℕ) → MachineNew (machine_in_contents of functions more)
-  contents_new section_kind.Start functions more = (refl, λ e. cc)
-  contents_new of functions more = (refl, λ e. cc)
+  contents_new : (of : SectionKind) (counts : Counts) (more : ℕ) → MachineNew (machine_in_contents of counts more)
+  contents_new section_kind.Start counts more = (refl, λ e. cc)
+  contents_new of counts more = (refl, λ e. cc)
 
-  size_new : (of : SectionKind) (functions n : ℕ) → MachineNew (after_size of functions n)
-  size_new of functions zero = (tt, λ e. cc)
-  size_new of functions (suc n) = contents_new of functions n
+  size_new : (of : SectionKind) (counts : Counts) (n : ℕ) → MachineNew (after_size of counts n)
+  size_new of counts zero = (tt, λ e. cc)
+  size_new of counts (suc n) = contents_new of counts n
 
-  begun_new : (of : SectionKind) (functions : ℕ) → MachineNew (begun_section of functions).0
-  begun_new section_kind.Segment zero = (refl, λ e. cc)
-  begun_new section_kind.Segment (suc n) = (tt, λ e. cc)
-  begun_new of functions = (refl, λ e. cc)
+  begun_new : (of : SectionKind) (counts : Counts) → MachineNew (begun_section of counts).0
+  begun_new section_kind.Segment counts = at_last counts.functions
+    where
+      at_last : (n : ℕ) → MachineNew (begun_last n counts).0
+      at_last zero = (refl, λ e. cc)
+      at_last (suc n) = (tt, λ e. cc)
+  begun_new of counts = (refl, λ e. cc)
 
-  rising_new : (last functions id : ℕ) (q : Option SectionKind) → MachineNew (machine_if_rising last functions id q).0
-  rising_new last functions id None = (tt, λ e. cc)
-  rising_new last functions id (Some of) = cond_both (nat_le id last) _ _ (λ (q : Machine × Event). MachineNew q.0) (λ _. (tt, λ e. cc)) (λ _. begun_new of functions)
+  rising_new : (last : ℕ) (counts : Counts) (id : ℕ) (q : Option SectionKind) → MachineNew (machine_if_rising last counts id q).0
+  rising_new last counts id None = (tt, λ e. cc)
+  rising_new last counts id (Some of) = cond_both (nat_le id last) _ _ (λ (q : Machine × Event). MachineNew q.0) (λ _. (tt, λ e. cc)) (λ _. begun_new of counts)
 
-  start_new : (last functions c : ℕ) → MachineNew (section_start last functions c).0
-  start_new last functions zero = (refl, λ e. cc)
-  start_new last functions (suc m) = rising_new last functions (suc m) (section_kind_of (suc m))
+  start_new : (last : ℕ) (counts : Counts) (c : ℕ) → MachineNew (section_start last counts c).0
+  start_new last counts zero = (refl, λ e. cc)
+  start_new last counts (suc m) = rising_new last counts (suc m) (section_kind_of (suc m))
 
   header_new : (n c : ℕ) → MachineNew (header_step n c).0
   header_new n c =
@@ -727,12 +731,12 @@ module _ (p : Profile) where
 
   machine_law : (m : Machine) (c : ℕ) → (IsRefused m → ⊥) → Law machine.Refused (num_machine p) (num_machine p m) c (step_of p m c).0
   machine_law (machine.Header n) c live = header_new n c
-  machine_law (machine.Between last functions) c live = start_new last functions c
-  machine_law (machine.CustomSize last functions r) c live = on_number_law machine.Refused (num_machine p) (unsigned_push 32 r c) (λ s. machine.CustomSize last functions s) (λ n. (custom_size last functions n, event.Nothing)) (λ s. refl) (λ s e. cc) (λ n. custom_new last functions n (custom.Length fresh) (refl, λ e. cc))
-  machine_law (machine.Custom last functions more q) c live = lift custom.Failed num_custom machine.Refused (num_machine p) (machine_in_custom last functions more) (λ w. refl) (custom_keeps last functions more) (custom_new last functions more) (num_custom q) c (custom_step q c).0 (custom_law q c)
-  machine_law (machine.Size of functions r) c live = on_number_law machine.Refused (num_machine p) (unsigned_push 32 r c) (λ s. machine.Size of functions s) (λ n. (after_size of functions n, event.Nothing)) (λ s. refl) (λ s e. cc) (size_new of functions)
-  machine_law (machine.Count of functions more r) c live = count_law of functions more (unsigned_push 32 r c)
-  machine_law (machine.Section of functions more left q) c live = lift at.Failed (num_member p) machine.Refused (num_machine p) (machine_in_member of functions more left) (λ w. refl) (section_keeps of functions more left) (section_new of functions more left) (num_member p q) c (member_step p q c).0 (member_law q c)
+  machine_law (machine.Between last counts) c live = start_new last counts c
+  machine_law (machine.CustomSize last counts r) c live = on_number_law machine.Refused (num_machine p) (unsigned_push 32 r c) (λ s. machine.CustomSize last counts s) (λ n. (custom_size last counts n, event.Nothing)) (λ s. refl) (λ s e. cc) (λ n. custom_new last counts n (custom.Length fresh) (refl, λ e. cc))
+  machine_law (machine.Custom last counts more q) c live = lift custom.Failed num_custom machine.Refused (num_machine p) (machine_in_custom last counts more) (λ w. refl) (custom_keeps last counts more) (custom_new last counts more) (num_custom q) c (custom_step q c).0 (custom_law q c)
+  machine_law (machine.Size of counts r) c live = on_number_law machine.Refused (num_machine p) (unsigned_push 32 r c) (λ s. machine.Size of counts s) (λ n. (after_size of counts n, event.Nothing)) (λ s. refl) (λ s e. cc) (size_new of counts)
+  machine_law (machine.Count of counts more r) c live = count_law of counts more (unsigned_push 32 r c)
+  machine_law (machine.Section of counts more left q) c live = lift at.Failed (num_member p) machine.Refused (num_machine p) (machine_in_member of counts more left) (λ w. refl) (section_keeps of counts more left) (section_new of counts more left) (num_member p q) c (member_step p q c).0 (member_law q c)
   machine_law (machine.Refused w) c live = absurd (live tt)
 
   -- the number that has begun and can go on
@@ -941,7 +945,7 @@ module _ (p : Profile) where
   heard_or zone y c m (event.EmptyName kind) = inl refl
 
   no_end : (m : Machine) (i : Integer) (r : Partial) → num_machine p m ≡ Some (i, r) → MayEnd m → ⊥
-  no_end (machine.Between last zero) i r e h = absurd (cc)
+  no_end (machine.Between last counts) i r e h = absurd (cc)
   no_end m i r e h = absurd h
 
   step_comes : {T : Type 0} (i : Integer) (r : Partial) (d : ℕ) (more : List ℕ) (q : Step T × Partial) (x : Machine) (y : List ℕ) (k : Marks) → Onward i r d q → Pushed machine.Refused (num_machine p) i q x → MachineRest strict p x y more k → ((s : Partial) → num_machine p x ≡ Some (i, s) → Comes i s more) → Comes i r (d ∷ more)
@@ -1040,8 +1044,8 @@ module _ (p : Profile) where
   custom_zero _ r e = not_zero _ r e (λ f. cc)
 
   machine_zero : (m : Machine) (r : Partial) → num_machine p m ≡ Some (u32_zero, r) → IsTrue (has p LongIndex)
-  machine_zero (machine.Custom last functions more q) r e = absurd (custom_zero q r e)
-  machine_zero (machine.Section of functions more left q) r e = member_zero q r e
+  machine_zero (machine.Custom last counts more q) r e = absurd (custom_zero q r e)
+  machine_zero (machine.Section of counts more left q) r e = member_zero q r e
   machine_zero _ r e = absurd (not_zero _ r e (λ f. cc))
 
   allowed : (m : Machine) (i : Integer) (r : Partial) → num_machine p m ≡ Some (i, r) → Allowed i

@@ -47,7 +47,7 @@ use Rattle.wm_machine.specs.exact.OpSteps.{class_step, prefix_step, begin_step, 
 use Rattle.wm_machine.specs.exact.ExpressionSteps.{start, after_reading, expression_step}
 use Rattle.wm_machine.specs.exact.MemberSteps.{on_value, on_type, with_item_given, after_param, after_result, after_constant, op_event, runs_or_body, entry_after_op, entry_step, member_in_entry, member_step}
 use Rattle.wm_machine.specs.exact.Steps.{machine_in_member, step_of}
-use Rattle.wm_machine.specs.exact.Live.{Live, answer_at_end, answer_at_end_of, decoder_after, event_effect, live_at_start, live_byte, live_from}
+use Rattle.wm_machine.specs.exact.Live.{answer_between, Live, answer_at_end, answer_at_end_of, decoder_after, event_effect, live_at_start, live_byte, live_from}
 use Rattle.wm_machine.specs.inner.Answers.{answer_of}
 use Rattle.wm_machine.proofs.MachineAndSink.{live_ok, reached, used_of}
 use Rattle.std.specs.Prelude.{if◌then◌else◌}
@@ -81,8 +81,11 @@ module _ {H : Type 0} (h : H) (n : ℕ) (r : Refusal) where
   placed w e = let s : record { at = n; why = w } ≡ r = cc in ap (λ (y : Refusal). y.at) s
 
   end_at : (m : Machine) → answer_at_end_of m h n ≡ Err r → n ≡ r.at
-  end_at (machine.Between last zero) e = absurd (let s : ◌≡◌ {A = Result H Refusal} (Ok h) (Err r) = e in cc)
-  end_at (machine.Between last (suc k)) e = placed why.CodeCount e
+  end_at (machine.Between last counts) e = between counts.functions e
+    where
+      between : (k : ℕ) → answer_between k h n ≡ Err r → n ≡ r.at
+      between zero e = absurd (let s : ◌≡◌ {A = Result H Refusal} (Ok h) (Err r) = e in cc)
+      between (suc k) e = placed why.CodeCount e
   end_at (machine.Refused w) e = placed w e
   end_at _ e = placed why.Truncated e
 
@@ -240,8 +243,8 @@ module _ (p q : Profile) (more : Extends q p) where
     member_apart _ = inl refl
 
     step_apart : (m : Machine) → Apart p q (λ w. (machine.Refused w, event.Nothing)) (step_of p m c) (step_of q m c)
-    step_apart (machine.Section of functions bytes left m) =
-        through p q (λ w. (at.Failed w, event.Nothing)) (λ x. (machine_in_member of functions bytes left x.0, x.1)) (member_step p m c) (member_step q m c) (member_apart m)
+    step_apart (machine.Section of counts bytes left m) =
+        through p q (λ w. (at.Failed w, event.Nothing)) (λ x. (machine_in_member of counts bytes left x.0, x.1)) (member_step p m c) (member_step q m c) (member_apart m)
     step_apart _ = inl refl
 
   -- a sink changes nothing of this

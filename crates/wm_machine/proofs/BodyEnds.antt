@@ -17,6 +17,7 @@ use Rattle.wm_syntax.specs.declared.why.Why.{Why}
 use Rattle.wm_syntax.specs.declared.why.Why.TheVariants as why
 use Rattle.wm_machine.specs.declared.machine.NameKind.{NameKind}
 use Rattle.wm_machine.specs.declared.machine.NameKind.TheVariants as name
+use Rattle.wm_machine.specs.declared.machine.Counts.{Counts}
 use Rattle.wm_machine.specs.declared.machine.InCustom.{InCustom}
 use Rattle.wm_machine.specs.declared.machine.InCustom.TheVariants as custom
 use Rattle.wm_machine.specs.declared.machine.Machine.{Machine}
@@ -49,7 +50,7 @@ use Rattle.wm_machine.specs.exact.Members.{section_kind_of, member_at_start}
 use Rattle.wm_machine.specs.exact.ValueSteps.{value_type_of, global_type_push, value_push}
 use Rattle.wm_machine.specs.exact.ExpressionSteps.{start, expression_step}
 use Rattle.wm_machine.specs.exact.MemberSteps.{on_number, on_value, on_type, with_item_given, after_param, after_result, after_name, after_length, name_step, functions_or_over, index_item, after_index, constant_over, after_constant, data_or_over, list_or_over, entry_step, member_in_entry, member_step}
-use Rattle.wm_machine.specs.exact.Steps.{custom_after_length, machine_in_custom, custom_step, machine_in_member, machine_after_count, machine_after_paired_count, after_count, begun_section, machine_if_rising, section_start, machine_in_contents, after_size, custom_size, header_step, step_of}
+use Rattle.wm_machine.specs.exact.Steps.{counts_in, begun_last, custom_after_length, machine_in_custom, custom_step, machine_in_member, machine_after_count, machine_after_paired_count, after_count, begun_section, machine_if_rising, section_start, machine_in_contents, after_size, custom_size, header_step, step_of}
 use Rattle.wm_machine.specs.exact.Runs.{byte_read, ByteRead, MachineState, zone_of, after_byte, state_after, state_at_start}
 use Rattle.wm_machine.specs.exact.Live.{IsRefused}
 use Rattle.wm_machine.proofs.ByteLists.{front_bytes}
@@ -75,7 +76,7 @@ CodeEntry p b = (k : Marks) × Code strict p b k
 
 -- after these bytes a code entry begins
 abbrev Starts : Profile → List ℕ → Type 0
-Starts p before = (of : SectionKind) × (functions more left : ℕ) × ((state_after p state_at_start before).machine ≡ machine.Section of functions more left (at.EntrySize fresh))
+Starts p before = (of : SectionKind) × (counts : Counts) × (more left : ℕ) × ((state_after p state_at_start before).machine ≡ machine.Section of counts more left (at.EntrySize fresh))
 
 -- in its size, and in it with so many bytes left
 record AtSize (p : Profile) (r : Partial) (b : List ℕ) : Type 0 where
@@ -242,11 +243,11 @@ module _ (p : Profile) where
   Becomes q b = Unit {0}
 
   abbrev PlacedIn : Machine → List ℕ → Type 0
-  PlacedIn (machine.Section of functions more left q) b = Placed q b
+  PlacedIn (machine.Section of counts more left q) b = Placed q b
   PlacedIn m b = Unit {0}
 
   abbrev BecomesIn : Machine → List ℕ → Type 0
-  BecomesIn (machine.Section of functions more left q) b = Becomes q b
+  BecomesIn (machine.Section of counts more left q) b = Becomes q b
   BecomesIn m b = Unit {0}
 
   outside_becomes : (q : InMember) (b : List ℕ) → IsOutside q → Becomes q b
@@ -338,61 +339,64 @@ module _ (p : Profile) where
     begins_so section_kind.Element b = tt
     begins_so section_kind.Segment b = tt
 
-    framed_so : (of : SectionKind) (functions bytes left : ℕ) (q : InMember) (b : List ℕ) → Becomes q b → BecomesIn (machine_in_member of functions bytes left q) b
-    framed_so of functions bytes left (at.Failed w) b h = tt
-    framed_so of functions zero zero at.Over b h = tt
-    framed_so of functions (suc n) zero at.Over b h = tt
-    framed_so of functions zero (suc l) at.Over b h = tt
-    framed_so of functions (suc n) (suc l) at.Over b h = begins_so of b
-    framed_so of functions zero left q b h = tt
-    framed_so of functions (suc n) left q b h = h
+    framed_so : (of : SectionKind) (counts : Counts) (bytes left : ℕ) (q : InMember) (b : List ℕ) → Becomes q b → BecomesIn (machine_in_member of counts bytes left q) b
+    framed_so of counts bytes left (at.Failed w) b h = tt
+    framed_so of counts zero zero at.Over b h = tt
+    framed_so of counts (suc n) zero at.Over b h = tt
+    framed_so of counts zero (suc l) at.Over b h = tt
+    framed_so of counts (suc n) (suc l) at.Over b h = begins_so of b
+    framed_so of counts zero left q b h = tt
+    framed_so of counts (suc n) left q b h = h
 
-    listed_so : (of : SectionKind) (functions bytes n : ℕ) (b : List ℕ) → BecomesIn (machine_after_count of functions bytes n) b
-    listed_so of functions bytes zero b = framed_so of functions bytes zero at.Over b tt
-    listed_so of functions bytes (suc n) b = framed_so of functions bytes n (member_at_start of) b (begins_so of b)
+    listed_so : (of : SectionKind) (counts : Counts) (bytes n : ℕ) (b : List ℕ) → BecomesIn (machine_after_count of counts bytes n) b
+    listed_so of counts bytes zero b = framed_so of counts bytes zero at.Over b tt
+    listed_so of counts bytes (suc n) b = framed_so of counts bytes n (member_at_start of) b (begins_so of b)
 
-    counted_so : (of : SectionKind) (functions bytes n : ℕ) (b : List ℕ) → BecomesIn (machine_after_paired_count of functions bytes n) b
-    counted_so section_kind.Function functions bytes n b = listed_so section_kind.Function n bytes n b
-    counted_so section_kind.Code functions bytes n b = cond_both (nat_eq n functions) _ _ (λ (m : Machine). BecomesIn m b) (λ _. listed_so section_kind.Code 0 bytes n b) (λ _. tt)
-    counted_so of functions bytes n b = listed_so of functions bytes n b
+    counted_so : (of : SectionKind) (counts : Counts) (bytes n : ℕ) (b : List ℕ) → BecomesIn (machine_after_paired_count of counts bytes n) b
+    counted_so section_kind.Function counts bytes n b = listed_so section_kind.Function (counts_in section_kind.Function counts n) bytes n b
+    counted_so section_kind.Code counts bytes n b = cond_both (nat_eq n counts.functions) _ _ (λ (m : Machine). BecomesIn m b) (λ _. listed_so section_kind.Code (counts_in section_kind.Code counts n) bytes n b) (λ _. tt)
+    counted_so of counts bytes n b = listed_so of (counts_in of counts n) bytes n b
 
-    count_so : (of : SectionKind) (functions more : ℕ) (x : Step ℕ × Partial) (b : List ℕ) → BecomesIn (after_count of functions more x).0 b
-    count_so of functions zero (step.More, s) b = tt
-    count_so of functions (suc n) (step.More, s) b = tt
-    count_so of functions more (step.Done n, s) b = counted_so of functions more n b
-    count_so of functions more (step.Bad, s) b = tt
+    count_so : (of : SectionKind) (counts : Counts) (more : ℕ) (x : Step ℕ × Partial) (b : List ℕ) → BecomesIn (after_count of counts more x).0 b
+    count_so of counts zero (step.More, s) b = tt
+    count_so of counts (suc n) (step.More, s) b = tt
+    count_so of counts more (step.Done n, s) b = counted_so of counts more n b
+    count_so of counts more (step.Bad, s) b = tt
 
-    contents_so : (of : SectionKind) (functions more : ℕ) (b : List ℕ) → BecomesIn (machine_in_contents of functions more) b
-    contents_so section_kind.Start functions more b = tt
-    contents_so of functions more b = tt
+    contents_so : (of : SectionKind) (counts : Counts) (more : ℕ) (b : List ℕ) → BecomesIn (machine_in_contents of counts more) b
+    contents_so section_kind.Start counts more b = tt
+    contents_so of counts more b = tt
 
     number_so : (x : Step ℕ × Partial) (more : Partial → Machine) (done : ℕ → Machine × Event) (b : List ℕ) → ((s : Partial) → BecomesIn (more s) b) → ((n : ℕ) → BecomesIn (done n).0 b) → BecomesIn (on_number x more done machine.Refused).0 b
     number_so (step.More, s) more done b f g = f s
     number_so (step.Done n, s) more done b f g = g n
     number_so (step.Bad, s) more done b f g = tt
 
-    size_so : (of : SectionKind) (functions n : ℕ) (b : List ℕ) → BecomesIn (after_size of functions n) b
-    size_so of functions zero b = tt
-    size_so of functions (suc n) b = contents_so of functions n b
+    size_so : (of : SectionKind) (counts : Counts) (n : ℕ) (b : List ℕ) → BecomesIn (after_size of counts n) b
+    size_so of counts zero b = tt
+    size_so of counts (suc n) b = contents_so of counts n b
 
-    custom_so : (last functions n : ℕ) (q : InCustom) (b : List ℕ) → BecomesIn (machine_in_custom last functions n q) b
-    custom_so last functions n (custom.Failed w) b = tt
-    custom_so last functions zero custom.Skip b = tt
-    custom_so last functions zero q b = tt
-    custom_so last functions (suc n) q b = tt
+    custom_so : (last : ℕ) (counts : Counts) (n : ℕ) (q : InCustom) (b : List ℕ) → BecomesIn (machine_in_custom last counts n q) b
+    custom_so last counts n (custom.Failed w) b = tt
+    custom_so last counts zero custom.Skip b = tt
+    custom_so last counts zero q b = tt
+    custom_so last counts (suc n) q b = tt
 
-    begun_so : (of : SectionKind) (functions : ℕ) (b : List ℕ) → BecomesIn (begun_section of functions).0 b
-    begun_so section_kind.Segment zero b = tt
-    begun_so section_kind.Segment (suc n) b = tt
-    begun_so of functions b = tt
+    begun_so : (of : SectionKind) (counts : Counts) (b : List ℕ) → BecomesIn (begun_section of counts).0 b
+    begun_so section_kind.Segment counts b = at_last counts.functions
+      where
+        at_last : (n : ℕ) → BecomesIn (begun_last n counts).0 b
+        at_last zero = tt
+        at_last (suc n) = tt
+    begun_so of counts b = tt
 
-    rising_so : (last functions id : ℕ) (q : Option SectionKind) (b : List ℕ) → BecomesIn (machine_if_rising last functions id q).0 b
-    rising_so last functions id None b = tt
-    rising_so last functions id (Some of) b = cond_both (nat_le id last) _ _ (λ (q : Machine × Event). BecomesIn q.0 b) (λ _. tt) (λ _. begun_so of functions b)
+    rising_so : (last : ℕ) (counts : Counts) (id : ℕ) (q : Option SectionKind) (b : List ℕ) → BecomesIn (machine_if_rising last counts id q).0 b
+    rising_so last counts id None b = tt
+    rising_so last counts id (Some of) b = cond_both (nat_le id last) _ _ (λ (q : Machine × Event). BecomesIn q.0 b) (λ _. tt) (λ _. begun_so of counts b)
 
-    start_so : (last functions d : ℕ) (b : List ℕ) → BecomesIn (section_start last functions d).0 b
-    start_so last functions zero b = tt
-    start_so last functions (suc m) b = rising_so last functions (suc m) (section_kind_of (suc m)) b
+    start_so : (last : ℕ) (counts : Counts) (d : ℕ) (b : List ℕ) → BecomesIn (section_start last counts d).0 b
+    start_so last counts zero b = tt
+    start_so last counts (suc m) b = rising_so last counts (suc m) (section_kind_of (suc m)) b
 
     header_so : (n d : ℕ) (b : List ℕ) → BecomesIn (header_step n d).0 b
     header_so n d b =
@@ -405,12 +409,12 @@ module _ (p : Profile) where
 
     step_becomes : (m : Machine) (b : List ℕ) → Fits p m → PlacedIn m b → BecomesIn (step_of p m c).0 (b ++ c ∷ [])
     step_becomes (machine.Header n) b f h = header_so n c (b ++ c ∷ [])
-    step_becomes (machine.Between last functions) b f h = start_so last functions c (b ++ c ∷ [])
-    step_becomes (machine.CustomSize last functions r) b f h = number_so (unsigned_push 32 r c) (λ s. machine.CustomSize last functions s) (λ n. (custom_size last functions n, event.Nothing)) (b ++ c ∷ []) (λ s. tt) (λ n. custom_so last functions n (custom.Length fresh) (b ++ c ∷ []))
-    step_becomes (machine.Custom last functions more q) b f h = custom_so last functions more (custom_step q c).0 (b ++ c ∷ [])
-    step_becomes (machine.Size of functions r) b f h = number_so (unsigned_push 32 r c) (λ s. machine.Size of functions s) (λ n. (after_size of functions n, event.Nothing)) (b ++ c ∷ []) (λ s. tt) (λ n. size_so of functions n (b ++ c ∷ []))
-    step_becomes (machine.Count of functions more r) b f h = count_so of functions more (unsigned_push 32 r c) (b ++ c ∷ [])
-    step_becomes (machine.Section of functions more left q) b f h = framed_so of functions more left (member_step p q c).0 (b ++ c ∷ []) (member_becomes (suc more) q b f.2.1 h)
+    step_becomes (machine.Between last counts) b f h = start_so last counts c (b ++ c ∷ [])
+    step_becomes (machine.CustomSize last counts r) b f h = number_so (unsigned_push 32 r c) (λ s. machine.CustomSize last counts s) (λ n. (custom_size last counts n, event.Nothing)) (b ++ c ∷ []) (λ s. tt) (λ n. custom_so last counts n (custom.Length fresh) (b ++ c ∷ []))
+    step_becomes (machine.Custom last counts more q) b f h = custom_so last counts more (custom_step q c).0 (b ++ c ∷ [])
+    step_becomes (machine.Size of counts r) b f h = number_so (unsigned_push 32 r c) (λ s. machine.Size of counts s) (λ n. (after_size of counts n, event.Nothing)) (b ++ c ∷ []) (λ s. tt) (λ n. size_so of counts n (b ++ c ∷ []))
+    step_becomes (machine.Count of counts more r) b f h = count_so of counts more (unsigned_push 32 r c) (b ++ c ∷ [])
+    step_becomes (machine.Section of counts more left q) b f h = framed_so of counts more left (member_step p q c).0 (b ++ c ∷ []) (member_becomes (suc more) q b f.2.1 h)
     step_becomes (machine.Refused w) b f h = tt
 
     heard_becomes : (zone : Zone) (y : List ℕ) (m : Machine) (e : Event) (b : List ℕ) → BecomesIn m b → BecomesIn (byte_read machine.Refused zone y c (m, e)).at b
@@ -422,16 +426,16 @@ module _ (p : Profile) where
     heard_becomes zone y m (event.EmptyName kind) b h = h
 
   placed : (b : List ℕ) (m : Machine) → BecomesIn m b → (state_after p state_at_start b).machine ≡ m → PlacedIn m b
-  placed b (machine.Section of functions more left (at.EntrySize r)) (inl h) e = h
-  placed b (machine.Section of functions more left (at.EntrySize r)) (inr i) e = record {
+  placed b (machine.Section of counts more left (at.EntrySize r)) (inl h) e = h
+  placed b (machine.Section of counts more left (at.EntrySize r)) (inr i) e = record {
     before = b;
     begun = [];
     whole = sym (append-nil b);
-    starts = (of, functions, more, left, e ∙ ap (λ s. machine.Section of functions more left (at.EntrySize s)) i);
+    starts = (of, counts, more, left, e ∙ ap (λ s. machine.Section of counts more left (at.EntrySize s)) i);
     number = subst (λ s. UnsignedAfter 32 s []) (sym i) (unsigned_fresh 32 (omega arith));
   }
-  placed b (machine.Section of functions more left (at.Entry n q)) h e = h
-  placed b (machine.Section of functions more left q) h e = tt
+  placed b (machine.Section of counts more left (at.Entry n q)) h e = h
+  placed b (machine.Section of counts more left q) h e = tt
   placed b m h e = tt
 
   placed_run : (before : List ℕ) (s : MachineState) → state_after p state_at_start before ≡ s → Fits p s.machine → PlacedIn s.machine before → (b : List ℕ) → AreBytes b → PlacedIn (state_after p s b).machine (before ++ b)
@@ -537,10 +541,10 @@ module _ (p : Profile) where
         step_at P (λ n i e. absurd (not_live n why.BodyEnd i e)) (λ e. absurd (cc)) (λ e. absurd (cc)) (λ e. absurd (cc)) (λ e. absurd (cc)) (λ e. absurd (cc)) p m c
         (λ i. i) (λ w s e. absurd (live (subst IsRefused (sym s) tt)))
         (λ q w s e. absurd (custom_not q c (s ∙ ap custom.Failed (same_refused w why.BodyEnd e))))
-        (λ of functions more left q w s i e. in_section of functions more left q (subst (Fits p) s f) (subst (λ n. PlacedIn n b) s h) (i ∙ ap at.Failed (same_refused w why.BodyEnd e)))
+        (λ of counts more left q w s i e. in_section of counts more left q (subst (Fits p) s f) (subst (λ n. PlacedIn n b) s h) (i ∙ ap at.Failed (same_refused w why.BodyEnd e)))
       where
-        in_section : (of : SectionKind) (functions more left : ℕ) (q : InMember) → Fits p (machine.Section of functions more left q) → Placed q b → (member_step p q c).0 ≡ at.Failed why.BodyEnd → OtherBodySize p (b ++ c ∷ [])
-        in_section of functions more left q f h e = member_ends (suc more) q f.2.1 h e
+        in_section : (of : SectionKind) (counts : Counts) (more left : ℕ) (q : InMember) → Fits p (machine.Section of counts more left q) → Placed q b → (member_step p q c).0 ≡ at.Failed why.BodyEnd → OtherBodySize p (b ++ c ∷ [])
+        in_section of counts more left q f h e = member_ends (suc more) q f.2.1 h e
 
     pub other_body_size : (m : Machine) (y : List ℕ) → record { machine = m; name = y } ≡ state_after p state_at_start b → Fits p m → (IsRefused m → ⊥) → (step_of p m c).0 ≡ machine.Refused why.BodyEnd → OtherBodySize p (b ++ c ∷ [])
     other_body_size m y same f live e =

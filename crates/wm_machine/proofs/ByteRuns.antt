@@ -5,6 +5,7 @@ use Rattle.std.proofs.lemmas.List.{take-append-drop, drop_more}
 use Rattle.wm_syntax.specs.declared.profile.Profile.{Profile}
 use Rattle.wm_syntax.specs.declared.why.Why.{Why}
 use Rattle.wm_syntax.specs.declared.why.Why.TheVariants as why
+use Rattle.wm_machine.specs.declared.machine.Counts.{Counts}
 use Rattle.wm_machine.specs.declared.machine.Machine.{Machine}
 use Rattle.wm_machine.specs.declared.machine.Machine.TheVariants as machine
 use Rattle.wm_machine.specs.declared.machine.InCustom.TheVariants as custom
@@ -83,15 +84,15 @@ module _ {H : Type 0} (after : H → Item → Result H Why) (p : Profile) (limit
   within {r = r} k less = ap (λ y. cond y r (Err (record { at = limit + 1; why = why.TooLong }))) (lt-ltb k limit less)
 
   -- the contents of a custom section
-  abbrev pub skip_with : ℕ → ℕ → ℕ → ℕ → Machine
+  abbrev pub skip_with : ℕ → Counts → ℕ → ℕ → Machine
   skip_with last f more rest = machine.Custom last f more custom.Skip
 
-  none_by : (last f : ℕ) (name : List ℕ) (b : List ℕ) → 0 < length b → named_by (skip_with last f) (λ n c. []) name b ≡ []
+  none_by : (last : ℕ) (f : Counts) (name : List ℕ) (b : List ℕ) → 0 < length b → named_by (skip_with last f) (λ n c. []) name b ≡ []
   none_by last f name [] some = absurd (omega arith)
   none_by last f name (c ∷ []) some = refl
   none_by last f name (c ∷ d ∷ b) some = none_by last f [] (d ∷ b) (omega arith)
 
-  pub skips : (bytes : List ℕ) (last f more used : ℕ) (name : List ℕ) (h : H) (k : ℕ) → used ≤ length bytes → used ≤ more → 0 < used → k + length bytes ≤ limit
+  pub skips : (bytes : List ℕ) (last : ℕ) (f : Counts) (more used : ℕ) (name : List ℕ) (h : H) (k : ℕ) → used ≤ length bytes → used ≤ more → 0 < used → k + length bytes ≤ limit
       → decoder_after after p limit (record { machine = machine.Custom last f more custom.Skip; name = name; held = h; at = k }) bytes
       ≡ decoder_after after p limit (record { machine = machine.Custom last f (more - used) custom.Skip; name = []; held = h; at = k + used }) (drop used bytes)
   skips bytes last f more used name h k inside a some room =
@@ -100,17 +101,17 @@ module _ {H : Type 0} (after : H → Item → Result H Why) (p : Profile) (limit
       ∙ ap (λ (z : List ℕ). decoder_after after p limit (record { machine = machine.Custom last f (more - used) custom.Skip; name = z; held = h; at = k + used }) (drop used bytes)) (none_by last f name (take used bytes) size)
 
   -- the bytes of a name in a section
-  abbrev pub name_with : SectionKind → ℕ → ℕ → NameKind → ℕ → ℕ → Machine
+  abbrev pub name_with : SectionKind → Counts → ℕ → NameKind → ℕ → ℕ → Machine
   name_with of f left kind more rest = machine.Section of f more left (at.Name kind rest)
 
   abbrev pub longer : List ℕ → ℕ → List ℕ
   longer name c = name ++ c ∷ []
 
-  name_grows : (of : SectionKind) (f left : ℕ) (kind : NameKind) (name b : List ℕ) → named_by (name_with of f left kind) longer name b ≡ name ++ b
+  name_grows : (of : SectionKind) (f : Counts) (left : ℕ) (kind : NameKind) (name b : List ℕ) → named_by (name_with of f left kind) longer name b ≡ name ++ b
   name_grows of f left kind name [] = sym (append-nil name)
   name_grows of f left kind name (c ∷ b) = name_grows of f left kind (name ++ c ∷ []) b ∙ append_assoc name (c ∷ []) b
 
-  pub names : (bytes : List ℕ) (m n : Machine) (q r : InMember) (of : SectionKind) (f left more rest used : ℕ) (kind : NameKind) (name left_name : List ℕ) (h : H) (k l : ℕ)
+  pub names : (bytes : List ℕ) (m n : Machine) (q r : InMember) (of : SectionKind) (f : Counts) (left more rest used : ℕ) (kind : NameKind) (name left_name : List ℕ) (h : H) (k l : ℕ)
       → m ≡ machine.Section of f more left q → q ≡ at.Name kind rest → n ≡ machine.Section of f (more - used) left r → r ≡ at.Name kind (rest - used)
       → left_name ≡ name ++ take used bytes → l ≡ k + used → used ≤ length bytes → used ≤ more → used ≤ rest → k + length bytes ≤ limit
       → decoder_after after p limit (record { machine = m; name = name; held = h; at = k }) bytes
@@ -125,15 +126,15 @@ module _ {H : Type 0} (after : H → Item → Result H Why) (p : Profile) (limit
       ∙ ap (λ y. decoder_after after p limit (record { machine = n; name = left_name; held = h; at = y }) (drop used bytes)) (sym ek))))
 
   -- data
-  abbrev pub in_data : SectionKind → ℕ → ℕ → ℕ → ℕ → List ℕ → H → ℕ → Live H
+  abbrev pub in_data : SectionKind → Counts → ℕ → ℕ → ℕ → List ℕ → H → ℕ → Live H
   in_data of f left more rest name h k = record { machine = machine.Section of f more left (at.Data rest); name = name; held = h; at = k }
 
-  one_data : (of : SectionKind) (f left more rest : ℕ) (name : List ℕ) (h g : H) (k c : ℕ) → k < limit → after h (data_byte c) ≡ Ok g
+  one_data : (of : SectionKind) (f : Counts) (left more rest : ℕ) (name : List ℕ) (h g : H) (k c : ℕ) → k < limit → after h (data_byte c) ≡ Ok g
       → live_byte after p limit (in_data of f left (suc more) (suc rest) name h k) c ≡ Ok (in_data of f left more rest [] g (k + 1))
   one_data of f left more rest name h g k c less given =
       within k less ∙ ap (λ y. live_from (machine.Section of f more left (at.Data rest)) (k + 1) (and_then y (λ g. Ok ([], g)))) given
 
-  data_steps : (of : SectionKind) (f left more rest : ℕ) (b tail name : List ℕ) (h g : H) (k : ℕ) → all_taken after h (map data_byte b) ≡ Ok g → k + length b ≤ limit
+  data_steps : (of : SectionKind) (f : Counts) (left more rest : ℕ) (b tail name : List ℕ) (h g : H) (k : ℕ) → all_taken after h (map data_byte b) ≡ Ok g → k + length b ≤ limit
       → (left_name : List ℕ) × (0 < length b → left_name ≡ []) × (name ≡ [] → left_name ≡ [])
       × (decoder_after after p limit (in_data of f left (past b more) (past b rest) name h k) (b ++ tail) ≡ decoder_after after p limit (in_data of f left more rest left_name g (k + length b)) tail)
   data_steps of f left more rest [] tail name h g k taken room =
@@ -152,7 +153,7 @@ module _ {H : Type 0} (after : H → Item → Result H Why) (p : Profile) (limit
       )
 
   -- what the sink was given of the data, at once
-  pub data_decoded : (bytes : List ℕ) (of : SectionKind) (f left more rest used : ℕ) (name : List ℕ) (h g : H) (k : ℕ)
+  pub data_decoded : (bytes : List ℕ) (of : SectionKind) (f : Counts) (left more rest used : ℕ) (name : List ℕ) (h g : H) (k : ℕ)
       → used ≤ length bytes → used ≤ more → used ≤ rest → 0 < used → k + length bytes ≤ limit
       → all_taken after h (map data_byte (take used bytes)) ≡ Ok g
       → decoder_after after p limit (in_data of f left more rest name h k) bytes
@@ -171,12 +172,12 @@ module _ {H : Type 0} (after : H → Item → Result H Why) (p : Profile) (limit
       ∙ ap (λ z. decoder_after after p limit (in_data of f left (more - used) (rest - used) [] g (k + z)) (drop used bytes)) size))))
 
   -- the last of them, after which the machine goes on or refuses
-  end_data : (of : SectionKind) (f left more rest : ℕ) (name : List ℕ) (h g : H) (k c : ℕ) → k < limit → after h (data_byte c) ≡ Ok g
+  end_data : (of : SectionKind) (f : Counts) (left more rest : ℕ) (name : List ℕ) (h g : H) (k c : ℕ) → k < limit → after h (data_byte c) ≡ Ok g
       → live_byte after p limit (in_data of f left more rest name h k) c ≡ live_or_refused (machine_in_member of f more left (data_or_over rest)) [] g (k + 1)
   end_data of f left more rest name h g k c less given =
       within k less ∙ ap (λ y. live_from (machine_in_member of f more left (data_or_over rest)) (k + 1) (and_then y (λ g. Ok ([], g)))) given
 
-  pub data_ended : (bytes : List ℕ) (of : SectionKind) (f left more rest used : ℕ) (name : List ℕ) (h g : H) (k l : ℕ)
+  pub data_ended : (bytes : List ℕ) (of : SectionKind) (f : Counts) (left more rest used : ℕ) (name : List ℕ) (h g : H) (k l : ℕ)
       → l ≡ k + (used + 1) → used < length bytes → used ≤ more → used ≤ rest → k + length bytes ≤ limit
       → all_taken after h (map data_byte (take (used + 1) bytes)) ≡ Ok g
       → decoder_after after p limit (in_data of f left more rest name h k) bytes

@@ -30,6 +30,7 @@ use Rattle.wm_machine.specs.declared.step.expressions.InExpression.TheVariants a
 use Rattle.wm_machine.specs.declared.machine.Plain.TheVariants as plain
 use Rattle.wm_machine.specs.declared.machine.NameKind.{NameKind}
 use Rattle.wm_machine.specs.declared.machine.NameKind.TheVariants as name
+use Rattle.wm_machine.specs.declared.machine.Counts.{Counts}
 use Rattle.wm_machine.specs.declared.machine.InCustom.{InCustom}
 use Rattle.wm_machine.specs.declared.machine.InCustom.TheVariants as custom
 use Rattle.wm_machine.specs.declared.machine.Machine.{Machine}
@@ -55,7 +56,7 @@ use Rattle.wm_machine.specs.exact.ValueSteps.{value_type_of, read_type, global_t
 use Rattle.wm_machine.specs.exact.OpSteps.{block_op, memory_op, on_answer, immediates, class_step, begin_step, padded, code_step, more_padding, padding_step, block_step, closing_step, long_step, op_push}
 use Rattle.wm_machine.specs.exact.ExpressionSteps.{start, ends as op_ends, after_op, after_label, after_reading, expression_failed, expression_step}
 use Rattle.wm_machine.specs.exact.MemberSteps.{on_number, on_value, on_type, with_item_given, after_param, after_result, after_name, after_length, name_step, functions_or_over, after_index, constant_over, after_constant, data_or_over, list_or_over, runs_or_body, entry_after_op, entry_step, member_in_entry, member_step}
-use Rattle.wm_machine.specs.exact.Steps.{custom_step, machine_in_custom, machine_in_member, machine_after_count, machine_after_paired_count, after_count, begun_section, machine_if_rising, section_start, after_size, header_step, step_of}
+use Rattle.wm_machine.specs.exact.Steps.{counts_in, begun_last, custom_step, machine_in_custom, machine_in_member, machine_after_count, machine_after_paired_count, after_count, begun_section, machine_if_rising, section_start, after_size, header_step, step_of}
 use Rattle.wm_machine.specs.exact.Runs.{byte_read, ByteRead, MachineState, zone_of, after_byte, state_after}
 use Rattle.wm_machine.proofs.MustStand.{eighties, padding}
 
@@ -86,7 +87,7 @@ CodeMember (at.Entry more q) b = CodeEntry q b
 CodeMember _ b = Unit {0}
 
 abbrev pub CodeMachine : Machine → List ℕ → Type 0
-CodeMachine (machine.Section of functions more left q) b = CodeMember q b
+CodeMachine (machine.Section of counts more left q) b = CodeMember q b
 CodeMachine _ b = Unit {0}
 
 -- one byte 80 more
@@ -345,53 +346,56 @@ module _ (p : Profile) (c : ℕ) (b : List ℕ) where
   start_code section_kind.Type = tt
   start_code _ = tt
 
-  section_code : (of : SectionKind) (functions bytes left : ℕ) (q : InMember) → CodeMember q Now → CodeMachine (machine_in_member of functions bytes left q) Now
-  section_code of functions bytes left (at.Failed w) h = tt
-  section_code of functions zero zero at.Over h = tt
-  section_code of functions (suc n) zero at.Over h = tt
-  section_code of functions zero (suc l) at.Over h = tt
-  section_code of functions (suc n) (suc l) at.Over h = start_code of
-  section_code of functions zero left q h = tt
-  section_code of functions (suc n) left q h = h
+  section_code : (of : SectionKind) (counts : Counts) (bytes left : ℕ) (q : InMember) → CodeMember q Now → CodeMachine (machine_in_member of counts bytes left q) Now
+  section_code of counts bytes left (at.Failed w) h = tt
+  section_code of counts zero zero at.Over h = tt
+  section_code of counts (suc n) zero at.Over h = tt
+  section_code of counts zero (suc l) at.Over h = tt
+  section_code of counts (suc n) (suc l) at.Over h = start_code of
+  section_code of counts zero left q h = tt
+  section_code of counts (suc n) left q h = h
 
-  custom_code : (last functions n : ℕ) (q : InCustom) → CodeMachine (machine_in_custom last functions n q) Now
-  custom_code last functions n (custom.Failed w) = tt
-  custom_code last functions zero custom.Skip = tt
-  custom_code last functions zero q = tt
-  custom_code last functions (suc n) q = tt
+  custom_code : (last : ℕ) (counts : Counts) (n : ℕ) (q : InCustom) → CodeMachine (machine_in_custom last counts n q) Now
+  custom_code last counts n (custom.Failed w) = tt
+  custom_code last counts zero custom.Skip = tt
+  custom_code last counts zero q = tt
+  custom_code last counts (suc n) q = tt
 
-  listed_code : (of : SectionKind) (functions bytes n : ℕ) → CodeMachine (machine_after_count of functions bytes n) Now
-  listed_code of functions bytes zero = section_code of functions bytes zero at.Over tt
-  listed_code of functions bytes (suc n) = section_code of functions bytes n (member_at_start of) (start_code of)
+  listed_code : (of : SectionKind) (counts : Counts) (bytes n : ℕ) → CodeMachine (machine_after_count of counts bytes n) Now
+  listed_code of counts bytes zero = section_code of counts bytes zero at.Over tt
+  listed_code of counts bytes (suc n) = section_code of counts bytes n (member_at_start of) (start_code of)
 
-  paired_code : (of : SectionKind) (functions bytes n : ℕ) → CodeMachine (machine_after_paired_count of functions bytes n) Now
-  paired_code section_kind.Function functions bytes n = listed_code section_kind.Function n bytes n
-  paired_code section_kind.Code functions bytes n = cond_both (nat_eq n functions) _ _ InMachineNow (λ _. listed_code section_kind.Code 0 bytes n) (λ _. tt)
-  paired_code of functions bytes n = listed_code of functions bytes n
+  paired_code : (of : SectionKind) (counts : Counts) (bytes n : ℕ) → CodeMachine (machine_after_paired_count of counts bytes n) Now
+  paired_code section_kind.Function counts bytes n = listed_code section_kind.Function (counts_in section_kind.Function counts n) bytes n
+  paired_code section_kind.Code counts bytes n = cond_both (nat_eq n counts.functions) _ _ InMachineNow (λ _. listed_code section_kind.Code (counts_in section_kind.Code counts n) bytes n) (λ _. tt)
+  paired_code of counts bytes n = listed_code of (counts_in of counts n) bytes n
 
-  count_code : (of : SectionKind) (functions more : ℕ) (q : Step ℕ × Partial) → CodeMachine (after_count of functions more q).0 Now
-  count_code of functions zero (step.More, s) = tt
-  count_code of functions (suc n) (step.More, s) = tt
-  count_code of functions more (step.Done n, s) = paired_code of functions more n
-  count_code of functions more (step.Bad, s) = tt
+  count_code : (of : SectionKind) (counts : Counts) (more : ℕ) (q : Step ℕ × Partial) → CodeMachine (after_count of counts more q).0 Now
+  count_code of counts zero (step.More, s) = tt
+  count_code of counts (suc n) (step.More, s) = tt
+  count_code of counts more (step.Done n, s) = paired_code of counts more n
+  count_code of counts more (step.Bad, s) = tt
 
-  size_code : (of : SectionKind) (functions n : ℕ) → CodeMachine (after_size of functions n) Now
-  size_code of functions zero = tt
-  size_code section_kind.Start functions (suc n) = tt
-  size_code of functions (suc n) = tt
+  size_code : (of : SectionKind) (counts : Counts) (n : ℕ) → CodeMachine (after_size of counts n) Now
+  size_code of counts zero = tt
+  size_code section_kind.Start counts (suc n) = tt
+  size_code of counts (suc n) = tt
 
-  begun_code : (of : SectionKind) (functions : ℕ) → CodeMachine (begun_section of functions).0 Now
-  begun_code section_kind.Segment zero = tt
-  begun_code section_kind.Segment (suc n) = tt
-  begun_code of functions = tt
+  begun_code : (of : SectionKind) (counts : Counts) → CodeMachine (begun_section of counts).0 Now
+  begun_code section_kind.Segment counts = at_last counts.functions
+    where
+      at_last : (n : ℕ) → CodeMachine (begun_last n counts).0 Now
+      at_last zero = tt
+      at_last (suc n) = tt
+  begun_code of counts = tt
 
-  rising_code : (last functions id : ℕ) (q : Option SectionKind) → CodeMachine (machine_if_rising last functions id q).0 Now
-  rising_code last functions id Nothing = tt
-  rising_code last functions id (Some of) = cond_both (nat_le id last) _ _ (λ (q : Machine × Event). InMachineNow q.0) (λ _. tt) (λ _. begun_code of functions)
+  rising_code : (last : ℕ) (counts : Counts) (id : ℕ) (q : Option SectionKind) → CodeMachine (machine_if_rising last counts id q).0 Now
+  rising_code last counts id Nothing = tt
+  rising_code last counts id (Some of) = cond_both (nat_le id last) _ _ (λ (q : Machine × Event). InMachineNow q.0) (λ _. tt) (λ _. begun_code of counts)
 
-  between_code : (last functions d : ℕ) → CodeMachine (section_start last functions d).0 Now
-  between_code last functions zero = tt
-  between_code last functions (suc m) = rising_code last functions (suc m) (section_kind_of (suc m))
+  between_code : (last : ℕ) (counts : Counts) (d : ℕ) → CodeMachine (section_start last counts d).0 Now
+  between_code last counts zero = tt
+  between_code last counts (suc m) = rising_code last counts (suc m) (section_kind_of (suc m))
 
   header_code : (n : ℕ) → CodeMachine (header_step n c).0 Now
   header_code n =
@@ -404,12 +408,12 @@ module _ (p : Profile) (c : ℕ) (b : List ℕ) where
 
   machine_code : (m : Machine) → CodeMachine m b → CodeMachine (step_of p m c).0 Now
   machine_code (machine.Header n) h = header_code n
-  machine_code (machine.Between last functions) h = between_code last functions c
-  machine_code (machine.CustomSize last functions r) h = number_code InMachineNow (unsigned_push 32 r c) _ _ _ (λ s. tt) (λ n. custom_code last functions n (custom.Length fresh)) (λ w. tt)
-  machine_code (machine.Custom last functions more q) h = custom_code last functions more (custom_step q c).0
-  machine_code (machine.Size of functions r) h = number_code InMachineNow (unsigned_push 32 r c) _ _ _ (λ s. tt) (size_code of functions) (λ w. tt)
-  machine_code (machine.Count of functions more r) h = count_code of functions more (unsigned_push 32 r c)
-  machine_code (machine.Section of functions more left q) h = section_code of functions more left (member_step p q c).0 (member_code q h)
+  machine_code (machine.Between last counts) h = between_code last counts c
+  machine_code (machine.CustomSize last counts r) h = number_code InMachineNow (unsigned_push 32 r c) _ _ _ (λ s. tt) (λ n. custom_code last counts n (custom.Length fresh)) (λ w. tt)
+  machine_code (machine.Custom last counts more q) h = custom_code last counts more (custom_step q c).0
+  machine_code (machine.Size of counts r) h = number_code InMachineNow (unsigned_push 32 r c) _ _ _ (λ s. tt) (size_code of counts) (λ w. tt)
+  machine_code (machine.Count of counts more r) h = count_code of counts more (unsigned_push 32 r c)
+  machine_code (machine.Section of counts more left q) h = section_code of counts more left (member_step p q c).0 (member_code q h)
   machine_code (machine.Refused w) h = tt
 
   heard_code : (zone : Zone) (y : List ℕ) (m : Machine) (e : Event) → CodeMachine m Now → CodeMachine (byte_read machine.Refused zone y c (m, e)).at Now

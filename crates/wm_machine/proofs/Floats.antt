@@ -82,12 +82,12 @@ module _ (c : ℕ) where
   step_float : (p : Profile) (m : Machine) → (IsRefused m → ⊥) → Fails (step_of p m c).0
   step_float p (machine.Header n) live = header_fails n
   step_float p (machine.Refused w) live = absurd (live tt)
-  step_float p (machine.Between last functions) live = past p (machine.Between last functions) (λ i. i) live
-  step_float p (machine.CustomSize last functions r) live = past p (machine.CustomSize last functions r) (λ i. i) live
-  step_float p (machine.Custom last functions more q) live = past p (machine.Custom last functions more q) (λ i. i) live
-  step_float p (machine.Size of functions r) live = past p (machine.Size of functions r) (λ i. i) live
-  step_float p (machine.Count of functions more r) live = past p (machine.Count of functions more r) (λ i. i) live
-  step_float p (machine.Section of functions more left q) live = past p (machine.Section of functions more left q) (λ i. i) live
+  step_float p (machine.Between last counts) live = past p (machine.Between last counts) (λ i. i) live
+  step_float p (machine.CustomSize last counts r) live = past p (machine.CustomSize last counts r) (λ i. i) live
+  step_float p (machine.Custom last counts more q) live = past p (machine.Custom last counts more q) (λ i. i) live
+  step_float p (machine.Size of counts r) live = past p (machine.Size of counts r) (λ i. i) live
+  step_float p (machine.Count of counts more r) live = past p (machine.Count of counts more r) (λ i. i) live
+  step_float p (machine.Section of counts more left q) live = past p (machine.Section of counts more left q) (λ i. i) live
 
 bad_utf8 : machine.Refused why.BadUtf8 ≡ machine.Refused why.Float → ⊥
 bad_utf8 e = cc

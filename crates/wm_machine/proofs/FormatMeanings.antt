@@ -14,6 +14,7 @@ use Rattle.wm_syntax.specs.Spelling.{AreBytes}
 use Rattle.wm_syntax.specs.Types.{SpellsU32}
 use Rattle.wm_machine.specs.declared.refusal.Refusal.{Refusal}
 use Rattle.wm_machine.specs.declared.machine.NameKind.{NameKind}
+use Rattle.wm_machine.specs.declared.machine.Counts.{Counts}
 use Rattle.wm_machine.specs.declared.machine.InCustom.{InCustom}
 use Rattle.wm_machine.specs.declared.machine.InCustom.TheVariants as custom
 use Rattle.wm_machine.specs.declared.machine.Machine.{Machine}
@@ -31,8 +32,8 @@ use Rattle.wm_machine.specs.Sinks.{and_then, all_taken}
 use Rattle.wm_machine.specs.exact.Members.{id_of, section_kind_of}
 use Rattle.wm_machine.specs.exact.MemberSteps.{on_number, member_step}
 use Rattle.wm_machine.specs.exact.Runs.{name_item, plain_item, marks, MachineState, state_after, state_at_start}
-use Rattle.wm_machine.specs.exact.Steps.{machine_after_count, machine_after_paired_count, after_count, begun_section, machine_if_rising, section_start, header_step, custom_step, custom_after_length, step_of}
-use Rattle.wm_machine.specs.exact.Live.{effect_of_maybe, name_taken, event_effect, Live, live_or_refused, live_from, live_byte, decoder_after, live_at_start, answer_at_end_of, answer_at_end, IsRefused}
+use Rattle.wm_machine.specs.exact.Steps.{counts_in, begun_last, machine_after_count, machine_after_paired_count, after_count, begun_section, machine_if_rising, section_start, header_step, custom_step, custom_after_length, step_of}
+use Rattle.wm_machine.specs.exact.Live.{answer_between, effect_of_maybe, name_taken, event_effect, Live, live_or_refused, live_from, live_byte, decoder_after, live_at_start, answer_at_end_of, answer_at_end, IsRefused}
 use Rattle.wm_machine.specs.inner.Answers.{answer_of}
 use Rattle.wm_machine.specs.Meanings.{RawSection, WrongInHeader, WrongId, IsUnknown, IsLate, HasFrom, EndsInSection, Declare, OtherCount, NoCode, OtherSize, OtherBodySize, WrongNumber, Wanted, WrongByte, IsNoInstruction, BeginsFloat, IsOtherByte, MeansOfFormat, MeaningOfFormat, IsRuleName, GivesRuleNames}
 use Rattle.wm_machine.proofs.ByteLists.{front_bytes}
@@ -48,7 +49,7 @@ use Rattle.wm_machine.proofs.MemberFloats.{IsMemberName, member_name}
 use Rattle.wm_machine.proofs.AfterTheHeader.{IsInSection, IsLive, listed_out, more_out, step_in}
 use Rattle.wm_machine.proofs.MachineStates.{FitsAt, Fits, run_fits, IsNamed, component_named}
 use Rattle.wm_machine.proofs.MachineAndSink.{given_taken, used_of, Used, reached, state_of, begin_fits}
-use Rattle.wm_machine.proofs.FramedBytes.{Past, AtSize, InContents, Counts, Numbers, numbers, one_byte, all_up, Framed, run_framed}
+use Rattle.wm_machine.proofs.FramedBytes.{Past, AtSize, InContents, CountsStand, Numbers, numbers, one_byte, all_up, Framed, run_framed}
 
 pub last_is_byte : (b : List ℕ) (c : ℕ) → AreBytes (b ++ c ∷ []) → c < 2 ^ 8
 last_is_byte [] c h = h.0
@@ -97,12 +98,12 @@ module _ (used : List ℕ) where
   lives : (m : Machine) → IsLive m → Says m
   lives (machine.Refused v) i w e = absurd i
   lives (machine.Header n) i w e = absurd i
-  lives (machine.Between last functions) i w e = absurd (cc)
-  lives (machine.CustomSize last functions r) i w e = absurd (cc)
-  lives (machine.Custom last functions more q) i w e = absurd (cc)
-  lives (machine.Size of functions r) i w e = absurd (cc)
-  lives (machine.Count of functions more r) i w e = absurd (cc)
-  lives (machine.Section of functions more left q) i w e = absurd (cc)
+  lives (machine.Between last counts) i w e = absurd (cc)
+  lives (machine.CustomSize last counts r) i w e = absurd (cc)
+  lives (machine.Custom last counts more q) i w e = absurd (cc)
+  lives (machine.Size of counts r) i w e = absurd (cc)
+  lives (machine.Count of counts more r) i w e = absurd (cc)
+  lives (machine.Section of counts more left q) i w e = absurd (cc)
 
   -- the names of a member
   of_member : (w : Why) → IsMemberName w → MachineSays used w
@@ -145,32 +146,35 @@ module _ (used : List ℕ) where
   custom_says c (custom.Failed v) w e = let same : why.SectionEnd ≡ w = cc in subst (MachineSays used) same tt
 
   -- at an id
-  begun_says : (of : SectionKind) (functions : ℕ) → (of ≡ section_kind.Segment → 0 < functions → MachineSays used why.CodeCount) → Says (begun_section of functions).0
-  begun_says section_kind.Segment zero k w e = absurd (cc)
-  begun_says section_kind.Segment (suc n) k w e = by_name why.CodeCount (k refl (omega arith)) w e
-  begun_says section_kind.Type functions k w e = absurd (cc)
-  begun_says section_kind.Import functions k w e = absurd (cc)
-  begun_says section_kind.Function functions k w e = absurd (cc)
-  begun_says section_kind.Table functions k w e = absurd (cc)
-  begun_says section_kind.Memory functions k w e = absurd (cc)
-  begun_says section_kind.Global functions k w e = absurd (cc)
-  begun_says section_kind.Export functions k w e = absurd (cc)
-  begun_says section_kind.Start functions k w e = absurd (cc)
-  begun_says section_kind.Element functions k w e = absurd (cc)
-  begun_says section_kind.Code functions k w e = absurd (cc)
+  begun_says : (of : SectionKind) (counts : Counts) → (of ≡ section_kind.Segment → 0 < counts.functions → MachineSays used why.CodeCount) → Says (begun_section of counts).0
+  begun_says section_kind.Segment counts k w e = at_last counts.functions (k refl) e
+    where
+      at_last : (n : ℕ) → (0 < n → MachineSays used why.CodeCount) → (begun_last n counts).0 ≡ machine.Refused w → MachineSays used w
+      at_last zero k e = absurd (cc)
+      at_last (suc n) k e = by_name why.CodeCount (k (omega arith)) w e
+  begun_says section_kind.Type counts k w e = absurd (cc)
+  begun_says section_kind.Import counts k w e = absurd (cc)
+  begun_says section_kind.Function counts k w e = absurd (cc)
+  begun_says section_kind.Table counts k w e = absurd (cc)
+  begun_says section_kind.Memory counts k w e = absurd (cc)
+  begun_says section_kind.Global counts k w e = absurd (cc)
+  begun_says section_kind.Export counts k w e = absurd (cc)
+  begun_says section_kind.Start counts k w e = absurd (cc)
+  begun_says section_kind.Element counts k w e = absurd (cc)
+  begun_says section_kind.Code counts k w e = absurd (cc)
 
 late_from : (id last : ℕ) (xs : List RawSection) → 0 < id → id ≤ last → ((last ≡ 0) ⊎ HasFrom last xs) → HasFrom id xs
 late_from id last xs some l (inl e) = absurd (omega (arith, some, l, e))
 late_from id last xs some l (inr h) = record { before = h.before; one = h.one; after = h.after; whole = h.whole; from = let f = h.from in omega (arith, l, f) }
 
 -- no section with id 10 came while functions await their code
-no_code : (last functions : ℕ) (b : List ℕ) (h : Past last b) → Counts last functions h → FitsAt last functions → 0 < functions → (used rest : List ℕ) → ((used ≡ b) × (rest ≡ [])) ⊎ (used ≡ b ++ 11 ∷ []) → NoCode used rest
-no_code last functions b h t fit some used rest ends =
+no_code : (last : ℕ) (counts : Counts) (b : List ℕ) (h : Past last b) → CountsStand last counts h → FitsAt last counts → 0 < counts.functions → (used rest : List ℕ) → ((used ≡ b) × (rest ≡ [])) ⊎ (used ≡ b ++ 11 ∷ []) → NoCode used rest
+no_code last counts b h t fit some used rest ends =
     let early : last < 10 = elim (cases_lt last 10) [ inl l ↦ l | inr l ↦ absurd (let z = fit.1 l in omega (arith, z, some)) ] in
     record {
       sections = h.sections;
       front = b;
-      functions = functions;
+      functions = counts.functions;
       ends = ends;
       before = h.spelled;
       declared = subst (λ n. Declare n h.sections) (sym (t early)) h.declares;
@@ -178,10 +182,10 @@ no_code last functions b h t fit some used rest ends =
       none = all_up (λ s. s.id ≤ last) (λ s. s.id ≢ 10) (λ s l e. omega (arith, l, e, early)) h.sections h.below;
     }
 
-rising_says : (last functions id : ℕ) (q : Option SectionKind) (b : List ℕ) → 0 < id → IsNamed id q → (h : Past last b) → Counts last functions h → FitsAt last functions → Says (b ++ id ∷ []) (machine_if_rising last functions id q).0
-rising_says last functions id None b some named h t fit =
+rising_says : (last : ℕ) (counts : Counts) (id : ℕ) (q : Option SectionKind) (b : List ℕ) → 0 < id → IsNamed id q → (h : Past last b) → CountsStand last counts h → FitsAt last counts → Says (b ++ id ∷ []) (machine_if_rising last counts id q).0
+rising_says last counts id None b some named h t fit =
     by_name (b ++ id ∷ []) why.SectionId (record { sections = h.sections; front = b; id = id; whole = refl; before = h.spelled; wrong = named })
-rising_says last functions id (Some of) b some named h t fit =
+rising_says last counts id (Some of) b some named h t fit =
     cond_both (nat_le id last) _ _ (λ (q : Machine × Event). Says (b ++ id ∷ []) q.0)
     (λ a. by_name (b ++ id ∷ []) why.SectionOrder (record {
       sections = h.sections;
@@ -191,11 +195,11 @@ rising_says last functions id (Some of) b some named h t fit =
       before = h.spelled;
       wrong = (some, (let l = last_id of in omega (arith, l, named)), late_from id last h.sections some (leb-true id last a) h.seen);
     }))
-    (λ _. begun_says (b ++ id ∷ []) of functions (λ e n rest. inr (no_code last functions b h t fit n (b ++ id ∷ []) rest (inr (ap (λ i. b ++ i ∷ []) (named ∙ ap id_of e))))))
+    (λ _. begun_says (b ++ id ∷ []) of counts (λ e n rest. inr (no_code last counts b h t fit n (b ++ id ∷ []) rest (inr (ap (λ i. b ++ i ∷ []) (named ∙ ap id_of e))))))
 
-start_says : (last functions c : ℕ) (b : List ℕ) (h : Past last b) → Counts last functions h → FitsAt last functions → Says (b ++ c ∷ []) (section_start last functions c).0
-start_says last functions zero b h t fit = λ w e. absurd (cc)
-start_says last functions (suc m) b h t fit = rising_says last functions (suc m) (section_kind_of (suc m)) b (omega arith) (component_named m) h t fit
+start_says : (last : ℕ) (counts : Counts) (c : ℕ) (b : List ℕ) (h : Past last b) → CountsStand last counts h → FitsAt last counts → Says (b ++ c ∷ []) (section_start last counts c).0
+start_says last counts zero b h t fit = λ w e. absurd (cc)
+start_says last counts (suc m) b h t fit = rising_says last counts (suc m) (section_kind_of (suc m)) b (omega arith) (component_named m) h t fit
 
 -- in the header
 header_says : (n c : ℕ) (b : List ℕ) → n < 8 → b ≡ take n header → Says (b ++ c ∷ []) (header_step n c).0
@@ -215,8 +219,8 @@ header_says n c b low e =
     (λ a. absurd (let l = ltb-false n 8 a in omega (arith, low, l)))
 
 -- at the count of the members of a section
-module _ (last functions more : ℕ) (used : List ℕ) (h : InContents last 10 more used) (t : functions ≡ h.past.declared) where
-  other_count : (n : ℕ) → SpellsU32 n h.contents → n ≢ functions → OtherCount used
+module _ (last : ℕ) (counts : Counts) (more : ℕ) (used : List ℕ) (h : InContents last 10 more used) (t : counts.functions ≡ h.past.declared) where
+  other_count : (n : ℕ) → SpellsU32 n h.contents → n ≢ counts.functions → OtherCount used
   other_count n u d = record {
     sections = h.past.sections;
     front = h.front;
@@ -224,7 +228,7 @@ module _ (last functions more : ℕ) (used : List ℕ) (h : InContents last 10 m
     count = h.contents;
     bytes = h.n;
     entries = n;
-    functions = functions;
+    functions = counts.functions;
     whole = h.whole;
     before = h.past.spelled;
     spelled_bytes = h.number;
@@ -234,53 +238,53 @@ module _ (last functions more : ℕ) (used : List ℕ) (h : InContents last 10 m
   }
 
 module _ (used : List ℕ) where
-  abbrev Counted : SectionKind → ℕ → ℕ → ℕ → Type 0
-  Counted of functions more n = Says used (machine_after_paired_count of functions more n)
+  abbrev Counted : SectionKind → Counts → ℕ → ℕ → Type 0
+  Counted of counts more n = Says used (machine_after_paired_count of counts more n)
 
-  listed_says : (of : SectionKind) (functions more n : ℕ) → Says used (machine_after_count of functions more n)
+  listed_says : (of : SectionKind) (counts : Counts) (more n : ℕ) → Says used (machine_after_count of counts more n)
   listed_says = listed_out (Says used) (lives used) (by_name used why.SectionEnd tt) (by_name used why.BadNumber tt)
 
-  counted_says : (last : ℕ) (of : SectionKind) (functions more n : ℕ) → last < id_of of → (h : InContents last (id_of of) more used) → Counts last functions h.past → SpellsU32 n h.contents → Counted of functions more n
-  counted_says last section_kind.Function functions more n up h t u = listed_says section_kind.Function n more n
-  counted_says last section_kind.Code functions more n up h t u =
-      cond_both (nat_eq n functions) _ _ (Says used) (λ _. listed_says section_kind.Code 0 more n)
-      (λ a. by_name used why.CodeCount (λ rest. inl (other_count last functions more used h (t up) n u (eqb-false n functions a))))
-  counted_says last section_kind.Type functions more n up h t u = listed_says section_kind.Type functions more n
-  counted_says last section_kind.Import functions more n up h t u = listed_says section_kind.Import functions more n
-  counted_says last section_kind.Table functions more n up h t u = listed_says section_kind.Table functions more n
-  counted_says last section_kind.Memory functions more n up h t u = listed_says section_kind.Memory functions more n
-  counted_says last section_kind.Global functions more n up h t u = listed_says section_kind.Global functions more n
-  counted_says last section_kind.Export functions more n up h t u = listed_says section_kind.Export functions more n
-  counted_says last section_kind.Start functions more n up h t u = listed_says section_kind.Start functions more n
-  counted_says last section_kind.Element functions more n up h t u = listed_says section_kind.Element functions more n
-  counted_says last section_kind.Segment functions more n up h t u = listed_says section_kind.Segment functions more n
+  counted_says : (last : ℕ) (of : SectionKind) (counts : Counts) (more n : ℕ) → last < id_of of → (h : InContents last (id_of of) more used) → CountsStand last counts h.past → SpellsU32 n h.contents → Counted of counts more n
+  counted_says last section_kind.Function counts more n up h t u = listed_says section_kind.Function (counts_in section_kind.Function counts n) more n
+  counted_says last section_kind.Code counts more n up h t u =
+      cond_both (nat_eq n counts.functions) _ _ (Says used) (λ _. listed_says section_kind.Code (counts_in section_kind.Code counts n) more n)
+      (λ a. by_name used why.CodeCount (λ rest. inl (other_count last counts more used h (t up) n u (eqb-false n counts.functions a))))
+  counted_says last section_kind.Type counts more n up h t u = listed_says section_kind.Type (counts_in section_kind.Type counts n) more n
+  counted_says last section_kind.Import counts more n up h t u = listed_says section_kind.Import (counts_in section_kind.Import counts n) more n
+  counted_says last section_kind.Table counts more n up h t u = listed_says section_kind.Table (counts_in section_kind.Table counts n) more n
+  counted_says last section_kind.Memory counts more n up h t u = listed_says section_kind.Memory (counts_in section_kind.Memory counts n) more n
+  counted_says last section_kind.Global counts more n up h t u = listed_says section_kind.Global (counts_in section_kind.Global counts n) more n
+  counted_says last section_kind.Export counts more n up h t u = listed_says section_kind.Export (counts_in section_kind.Export counts n) more n
+  counted_says last section_kind.Start counts more n up h t u = listed_says section_kind.Start (counts_in section_kind.Start counts n) more n
+  counted_says last section_kind.Element counts more n up h t u = listed_says section_kind.Element (counts_in section_kind.Element counts n) more n
+  counted_says last section_kind.Segment counts more n up h t u = listed_says section_kind.Segment (counts_in section_kind.Segment counts n) more n
 
-  count_says : (last : ℕ) (of : SectionKind) (functions more : ℕ) (q : Step ℕ × Partial) → last < id_of of → (h : InContents last (id_of of) more used) → Counts last functions h.past → Numbers h.contents q → Says used (after_count of functions more q).0
-  count_says last of functions more (More, r) up h t u = more_out (Says used) (lives used) (by_name used why.SectionEnd tt) (by_name used why.BadNumber tt) of functions more r
-  count_says last of functions more (Done n, r) up h t u = counted_says last of functions more n up h t u
-  count_says last of functions more (Bad, r) up h t u = by_name used why.BadNumber tt
+  count_says : (last : ℕ) (of : SectionKind) (counts : Counts) (more : ℕ) (q : Step ℕ × Partial) → last < id_of of → (h : InContents last (id_of of) more used) → CountsStand last counts h.past → Numbers h.contents q → Says used (after_count of counts more q).0
+  count_says last of counts more (More, r) up h t u = more_out (Says used) (lives used) (by_name used why.SectionEnd tt) (by_name used why.BadNumber tt) of counts more r
+  count_says last of counts more (Done n, r) up h t u = counted_says last of counts more n up h t u
+  count_says last of counts more (Bad, r) up h t u = by_name used why.BadNumber tt
 
 abbrev IsCount : Machine → Type 0
-IsCount (machine.Count of functions more r) = Unit {0}
+IsCount (machine.Count of counts more r) = Unit {0}
 IsCount m = ⊥
 
 section_says : (p : Profile) (m : Machine) (c : ℕ) (used : List ℕ) → IsInSection m → (IsCount m → ⊥) → Says used (step_of p m c).0
 section_says p m c used i other =
     step_in (Says used) (lives used) (by_name used why.SectionEnd tt) (by_name used why.BadNumber tt) p m c i
-    (λ of functions more r s. absurd (other (subst IsCount (sym s) tt)))
-    (λ q w e. by_name used w (custom_says used c q w e)) (λ of functions more left q w s e. by_name used w (member_says used p c q w e))
+    (λ of counts more r s. absurd (other (subst IsCount (sym s) tt)))
+    (λ q w e. by_name used w (custom_says used c q w e)) (λ of counts more left q w s e. by_name used w (member_says used p c q w e))
 
 pub step_says : (p : Profile) (m : Machine) (c : ℕ) (b : List ℕ) → c < 2 ^ 8 → (IsRefused m → ⊥) → Fits p m → Framed m b → Says (b ++ c ∷ []) (step_of p m c).0
 unfolding one_byte
 step_says p (machine.Header n) c b byte live fit f = header_says n c b f.0 f.1
-step_says p (machine.Between last functions) c b byte live fit f = start_says last functions c b f.0 f.1 fit
+step_says p (machine.Between last counts) c b byte live fit f = start_says last counts c b f.0 f.1 fit
 step_says p (machine.Refused w) c b byte live fit f = absurd (live tt)
-step_says p (machine.CustomSize last functions r) c b byte live fit f = section_says p (machine.CustomSize last functions r) c (b ++ c ∷ []) tt (λ i. i)
-step_says p (machine.Custom last functions more q) c b byte live fit f = section_says p (machine.Custom last functions more q) c (b ++ c ∷ []) tt (λ i. i)
-step_says p (machine.Size of functions r) c b byte live fit f = section_says p (machine.Size of functions r) c (b ++ c ∷ []) tt (λ i. i)
-step_says p (machine.Count of functions more r) c b byte live fit f =
-    count_says (b ++ c ∷ []) f.0 of functions more (unsigned_push 32 r c) f.1 (one_byte f.0 (id_of of) more b c f.2) f.3 (numbers r f.2.contents c byte f.4)
-step_says p (machine.Section of functions more left q) c b byte live fit f = section_says p (machine.Section of functions more left q) c (b ++ c ∷ []) tt (λ i. i)
+step_says p (machine.CustomSize last counts r) c b byte live fit f = section_says p (machine.CustomSize last counts r) c (b ++ c ∷ []) tt (λ i. i)
+step_says p (machine.Custom last counts more q) c b byte live fit f = section_says p (machine.Custom last counts more q) c (b ++ c ∷ []) tt (λ i. i)
+step_says p (machine.Size of counts r) c b byte live fit f = section_says p (machine.Size of counts r) c (b ++ c ∷ []) tt (λ i. i)
+step_says p (machine.Count of counts more r) c b byte live fit f =
+    count_says (b ++ c ∷ []) f.0 of counts more (unsigned_push 32 r c) f.1 (one_byte f.0 (id_of of) more b c f.2) f.3 (numbers r f.2.contents c byte f.4)
+step_says p (machine.Section of counts more left q) c b byte live fit f = section_says p (machine.Section of counts more left q) c (b ++ c ∷ []) tt (λ i. i)
 
 -- the names that a sink gives are none of these
 by_rule : (p : Profile) (limit : ℕ) (used rest : List ℕ) (w : Why) → IsRuleName w → MeansOfFormat p limit used rest w
@@ -491,16 +495,19 @@ module _ {H : Type 0} (after : H → Item → Result H Why) (s : Setting H) (nam
 
       go : (m : Machine) → (IsRefused m → ⊥) → Fits s.profile m → Framed m b → answer_at_end_of m h at ≡ Err r → MeansOfFormat s.profile s.limit b [] r.why
       go (machine.Refused w) live fit f e = absurd (live tt)
-      go (machine.Between last zero) live fit f e = absurd (cc)
-      go (machine.Between last (suc n)) live fit f e = named why.CodeCount (cc (e)) (inr (no_code last (suc n) b f.0 f.1 fit (omega arith) b [] (inl (refl, refl))))
+      go (machine.Between last counts) live fit f e = between counts.functions (λ some. no_code last counts b f.0 f.1 fit some b [] (inl (refl, refl))) e
+        where
+          between : (n : ℕ) → (0 < n → NoCode b []) → answer_between n h at ≡ Err r → MeansOfFormat s.profile s.limit b [] r.why
+          between zero k e = absurd (cc)
+          between (suc n) k e = named why.CodeCount (cc (e)) (inr (k (omega arith)))
       go (machine.Header n) live fit f e =
           let long : length b ≡ n = ap length f.1 ∙ header_length n f.0 in
           named why.Truncated (cc (e)) (refl, inl ((let l = f.0 in omega (arith, l, long)), f.1 ∙ ap (λ i. take i header) (sym long)))
-      go (machine.CustomSize last functions r) live fit f e = named why.Truncated (cc (e)) (refl, inr (cut_size last 0 r b fit.0 f.0))
-      go (machine.Custom last functions more q) live fit f e = named why.Truncated (cc (e)) (refl, inr (cut_contents last 0 more b f.0))
-      go (machine.Size of functions r) live fit f e = named why.Truncated (cc (e)) (refl, inr (cut_size f.0 (id_of of) r b fit.0 f.2))
-      go (machine.Count of functions more r) live fit f e = named why.Truncated (cc (e)) (refl, inr (cut_contents f.0 (id_of of) more b f.2))
-      go (machine.Section of functions more left q) live fit f e = named why.Truncated (cc (e)) (refl, inr (cut_contents f.0 (id_of of) more b f.2))
+      go (machine.CustomSize last counts r) live fit f e = named why.Truncated (cc (e)) (refl, inr (cut_size last 0 r b fit.0 f.0))
+      go (machine.Custom last counts more q) live fit f e = named why.Truncated (cc (e)) (refl, inr (cut_contents last 0 more b f.0))
+      go (machine.Size of counts r) live fit f e = named why.Truncated (cc (e)) (refl, inr (cut_size f.0 (id_of of) r b fit.0 f.2))
+      go (machine.Count of counts more r) live fit f e = named why.Truncated (cc (e)) (refl, inr (cut_contents f.0 (id_of of) more b f.2))
+      go (machine.Section of counts more left q) live fit f e = named why.Truncated (cc (e)) (refl, inr (cut_contents f.0 (id_of of) more b f.2))
 
   ended_at : (m : Machine) (h : H) (at : ℕ) (r : Refusal) → answer_at_end_of m h at ≡ Err r → r.at ≡ at
   ended_at m h at r e = go m e
@@ -509,8 +516,11 @@ module _ {H : Type 0} (after : H → Item → Result H Why) (s : Setting H) (nam
       its w is = sym (ap (λ (y : Refusal). y.at) is)
 
       go : (m : Machine) → answer_at_end_of m h at ≡ Err r → r.at ≡ at
-      go (machine.Between last zero) e = absurd (cc)
-      go (machine.Between last (suc n)) e = its why.CodeCount (cc (e))
+      go (machine.Between last counts) e = between counts.functions e
+        where
+          between : (n : ℕ) → answer_between n h at ≡ Err r → r.at ≡ at
+          between zero e = absurd (cc)
+          between (suc n) e = its why.CodeCount (cc (e))
       go (machine.Refused w) e = its w (cc (e))
       go m e = its why.Truncated (cc (e))
 

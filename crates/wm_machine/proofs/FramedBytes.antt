@@ -13,6 +13,7 @@ use Rattle.wm_syntax.specs.Types.{SpellsU32}
 use Rattle.wm_syntax.specs.inner.Numbers.{Partial, UnsignedAfter}
 use Rattle.wm_syntax.specs.exact.Reading.{fresh, unsigned_push}
 use Rattle.wm_syntax.proofs.Readers.{unsigned_fresh}
+use Rattle.wm_machine.specs.declared.machine.Counts.{Counts}
 use Rattle.wm_machine.specs.declared.machine.InCustom.{InCustom}
 use Rattle.wm_machine.specs.declared.machine.InCustom.TheVariants as custom
 use Rattle.wm_machine.specs.declared.machine.Machine.{Machine}
@@ -27,7 +28,7 @@ use Rattle.wm_machine.specs.Items.{Zone}
 use Rattle.wm_machine.specs.Sections.{header}
 use Rattle.wm_machine.specs.exact.Members.{id_of, section_kind_of, member_at_start}
 use Rattle.wm_machine.specs.exact.MemberSteps.{on_number, member_step}
-use Rattle.wm_machine.specs.exact.Steps.{machine_in_custom, custom_step, machine_in_member, machine_after_count, machine_after_paired_count, after_count, begun_section, machine_if_rising, section_start, after_size, custom_size, header_step, step_of}
+use Rattle.wm_machine.specs.exact.Steps.{counts_in, begun_last, machine_in_custom, custom_step, machine_in_member, machine_after_count, machine_after_paired_count, after_count, begun_section, machine_if_rising, section_start, after_size, custom_size, header_step, step_of}
 use Rattle.wm_machine.specs.exact.Runs.{byte_read, ByteRead, MachineState, zone_of, after_byte, state_after}
 use Rattle.wm_machine.proofs.Numbers.{NumberNext, number_next}
 use Rattle.wm_machine.proofs.MachineStates.{IsNamed, component_named}
@@ -69,25 +70,25 @@ pub record InContents (last id left : ℕ) (b : List ℕ) : Type 0 where
   pub room : n ≡ length contents + left
 
 -- the functions that the machine counts are those that were declared, up to the code section
-abbrev pub Counts : (last functions : ℕ) {b : List ℕ} → Past last b → Type 0
-Counts last functions h = last < 10 → functions ≡ h.declared
+abbrev pub CountsStand : (last : ℕ) (counts : Counts) {b : List ℕ} → Past last b → Type 0
+CountsStand last counts h = last < 10 → counts.functions ≡ h.declared
 
 -- the same in a section with this id, once its count was read
-abbrev pub CountsIn : SectionKind → ℕ → (contents : List ℕ) → ℕ → Type 0
-CountsIn section_kind.Function functions contents declared =
-    (number more : List ℕ) × (contents ≡ number ++ more) × SpellsU32 functions number
-CountsIn of functions contents declared = id_of of < 10 → functions ≡ declared
+abbrev pub CountsIn : SectionKind → Counts → (contents : List ℕ) → ℕ → Type 0
+CountsIn section_kind.Function counts contents declared =
+    (number more : List ℕ) × (contents ≡ number ++ more) × SpellsU32 counts.functions number
+CountsIn of counts contents declared = id_of of < 10 → counts.functions ≡ declared
 
 abbrev pub Framed : Machine → List ℕ → Type 0
 Framed (machine.Header n) b = (n < 8) × (b ≡ take n header)
-Framed (machine.Between last functions) b = (h : Past last b) × Counts last functions h
-Framed (machine.CustomSize last functions r) b = (h : AtSize last 0 r b) × Counts last functions h.past
-Framed (machine.Custom last functions more q) b = (h : InContents last 0 (suc more) b) × Counts last functions h.past
-Framed (machine.Size of functions r) b = (last : ℕ) × (last < id_of of) × (h : AtSize last (id_of of) r b) × Counts last functions h.past
-Framed (machine.Count of functions more r) b =
-    (last : ℕ) × (last < id_of of) × (h : InContents last (id_of of) (suc more) b) × Counts last functions h.past × UnsignedAfter 32 r h.contents
-Framed (machine.Section of functions more left q) b =
-    (last : ℕ) × (last < id_of of) × (h : InContents last (id_of of) (suc more) b) × CountsIn of functions h.contents h.past.declared
+Framed (machine.Between last counts) b = (h : Past last b) × CountsStand last counts h
+Framed (machine.CustomSize last counts r) b = (h : AtSize last 0 r b) × CountsStand last counts h.past
+Framed (machine.Custom last counts more q) b = (h : InContents last 0 (suc more) b) × CountsStand last counts h.past
+Framed (machine.Size of counts r) b = (last : ℕ) × (last < id_of of) × (h : AtSize last (id_of of) r b) × CountsStand last counts h.past
+Framed (machine.Count of counts more r) b =
+    (last : ℕ) × (last < id_of of) × (h : InContents last (id_of of) (suc more) b) × CountsStand last counts h.past × UnsignedAfter 32 r h.contents
+Framed (machine.Section of counts more left q) b =
+    (last : ℕ) × (last < id_of of) × (h : InContents last (id_of of) (suc more) b) × CountsIn of counts h.contents h.past.declared
 Framed (machine.Refused w) b = Unit {0}
 
 -- the section as bytes
@@ -147,86 +148,86 @@ one_byte last id left b c h = record {
 }
 
 -- one byte more of the contents leaves their count
-one_more : (of : SectionKind) (functions : ℕ) (contents : List ℕ) (d c : ℕ) → CountsIn of functions contents d → CountsIn of functions (contents ++ c ∷ []) d
-one_more section_kind.Function functions contents d c t = (t.0, t.1 ++ c ∷ [], ap (λ y. y ++ c ∷ []) t.2 ∙ append_assoc t.0 t.1 (c ∷ []), t.3)
-one_more section_kind.Type functions contents d c t = t
-one_more section_kind.Import functions contents d c t = t
-one_more section_kind.Table functions contents d c t = t
-one_more section_kind.Memory functions contents d c t = t
-one_more section_kind.Global functions contents d c t = t
-one_more section_kind.Export functions contents d c t = t
-one_more section_kind.Start functions contents d c t = t
-one_more section_kind.Element functions contents d c t = t
-one_more section_kind.Code functions contents d c t = t
-one_more section_kind.Segment functions contents d c t = t
+one_more : (of : SectionKind) (counts : Counts) (contents : List ℕ) (d c : ℕ) → CountsIn of counts contents d → CountsIn of counts (contents ++ c ∷ []) d
+one_more section_kind.Function counts contents d c t = (t.0, t.1 ++ c ∷ [], ap (λ y. y ++ c ∷ []) t.2 ∙ append_assoc t.0 t.1 (c ∷ []), t.3)
+one_more section_kind.Type counts contents d c t = t
+one_more section_kind.Import counts contents d c t = t
+one_more section_kind.Table counts contents d c t = t
+one_more section_kind.Memory counts contents d c t = t
+one_more section_kind.Global counts contents d c t = t
+one_more section_kind.Export counts contents d c t = t
+one_more section_kind.Start counts contents d c t = t
+one_more section_kind.Element counts contents d c t = t
+one_more section_kind.Code counts contents d c t = t
+one_more section_kind.Segment counts contents d c t = t
 
 begins_number : (y : List ℕ) → y ≡ [] → UnsignedAfter 32 fresh y
 begins_number y e = subst (UnsignedAfter 32 fresh) (sym e) (unsigned_fresh 32 (omega arith))
 
 -- in a custom section
-in_custom : (last functions left : ℕ) (q : InCustom) (b : List ℕ) (h : InContents last 0 left b) → Counts last functions h.past → Framed (machine_in_custom last functions left q) b
+in_custom : (last : ℕ) (counts : Counts) (left : ℕ) (q : InCustom) (b : List ℕ) (h : InContents last 0 left b) → CountsStand last counts h.past → Framed (machine_in_custom last counts left q) b
 unfolding ended
-in_custom last functions left (custom.Failed w) b h t = tt
-in_custom last functions zero custom.Skip b h t =
+in_custom last counts left (custom.Failed w) b h t = tt
+in_custom last counts zero custom.Skip b h t =
     (ended last 0 b last h (omega arith) (omega arith) (custom_seen last _) h.past.declared (declares_more h.past.declared h.past.sections (record { id = 0; contents = h.contents }) (λ e. omega (arith, e)) h.past.declares), t)
-in_custom last functions zero (custom.Length r) b h t = tt
-in_custom last functions zero (custom.Name m) b h t = tt
-in_custom last functions (suc n) custom.Skip b h t = (h, t)
-in_custom last functions (suc n) (custom.Length r) b h t = (h, t)
-in_custom last functions (suc n) (custom.Name m) b h t = (h, t)
+in_custom last counts zero (custom.Length r) b h t = tt
+in_custom last counts zero (custom.Name m) b h t = tt
+in_custom last counts (suc n) custom.Skip b h t = (h, t)
+in_custom last counts (suc n) (custom.Length r) b h t = (h, t)
+in_custom last counts (suc n) (custom.Name m) b h t = (h, t)
 
 -- what the sections declare once this one is over
-abbrev Declared : SectionKind → ℕ → List RawSection → List ℕ → ℕ → Type 0
-Declared of functions xs contents n = Declare n (xs ++ record { id = id_of of; contents = contents } ∷ []) × (id_of of < 10 → functions ≡ n)
+abbrev Declared : SectionKind → Counts → List RawSection → List ℕ → ℕ → Type 0
+Declared of counts xs contents n = Declare n (xs ++ record { id = id_of of; contents = contents } ∷ []) × (id_of of < 10 → counts.functions ≡ n)
 
-other_declares : (of : SectionKind) (functions : ℕ) (xs : List RawSection) (contents : List ℕ) (d : ℕ) → id_of of ≢ 3 → Declare d xs → (id_of of < 10 → functions ≡ d) → (n : ℕ) × Declared of functions xs contents n
-other_declares of functions xs contents d other h t = (d, (declares_more d xs (record { id = id_of of; contents = contents }) other h, t))
+other_declares : (of : SectionKind) (counts : Counts) (xs : List RawSection) (contents : List ℕ) (d : ℕ) → id_of of ≢ 3 → Declare d xs → (id_of of < 10 → counts.functions ≡ d) → (n : ℕ) × Declared of counts xs contents n
+other_declares of counts xs contents d other h t = (d, (declares_more d xs (record { id = id_of of; contents = contents }) other h, t))
 
-over_declares : (of : SectionKind) (functions : ℕ) (xs : List RawSection) (contents : List ℕ) (d : ℕ) → Declare d xs → CountsIn of functions contents d → (n : ℕ) × Declared of functions xs contents n
-over_declares section_kind.Function functions xs contents d h t =
-    (functions, (inl (record { before = xs; after = []; number = t.0; more = t.1; whole = ap (λ y. xs ++ record { id = 3; contents = y } ∷ []) t.2; spelled = t.3 }), λ l. refl))
-over_declares section_kind.Type functions xs contents d h t = other_declares section_kind.Type functions xs contents d (λ e. omega (arith, e)) h t
-over_declares section_kind.Import functions xs contents d h t = other_declares section_kind.Import functions xs contents d (λ e. omega (arith, e)) h t
-over_declares section_kind.Table functions xs contents d h t = other_declares section_kind.Table functions xs contents d (λ e. omega (arith, e)) h t
-over_declares section_kind.Memory functions xs contents d h t = other_declares section_kind.Memory functions xs contents d (λ e. omega (arith, e)) h t
-over_declares section_kind.Global functions xs contents d h t = other_declares section_kind.Global functions xs contents d (λ e. omega (arith, e)) h t
-over_declares section_kind.Export functions xs contents d h t = other_declares section_kind.Export functions xs contents d (λ e. omega (arith, e)) h t
-over_declares section_kind.Start functions xs contents d h t = other_declares section_kind.Start functions xs contents d (λ e. omega (arith, e)) h t
-over_declares section_kind.Element functions xs contents d h t = other_declares section_kind.Element functions xs contents d (λ e. omega (arith, e)) h t
-over_declares section_kind.Code functions xs contents d h t = other_declares section_kind.Code functions xs contents d (λ e. omega (arith, e)) h t
-over_declares section_kind.Segment functions xs contents d h t = other_declares section_kind.Segment functions xs contents d (λ e. omega (arith, e)) h t
+over_declares : (of : SectionKind) (counts : Counts) (xs : List RawSection) (contents : List ℕ) (d : ℕ) → Declare d xs → CountsIn of counts contents d → (n : ℕ) × Declared of counts xs contents n
+over_declares section_kind.Function counts xs contents d h t =
+    (counts.functions, (inl (record { before = xs; after = []; number = t.0; more = t.1; whole = ap (λ y. xs ++ record { id = 3; contents = y } ∷ []) t.2; spelled = t.3 }), λ l. refl))
+over_declares section_kind.Type counts xs contents d h t = other_declares section_kind.Type counts xs contents d (λ e. omega (arith, e)) h t
+over_declares section_kind.Import counts xs contents d h t = other_declares section_kind.Import counts xs contents d (λ e. omega (arith, e)) h t
+over_declares section_kind.Table counts xs contents d h t = other_declares section_kind.Table counts xs contents d (λ e. omega (arith, e)) h t
+over_declares section_kind.Memory counts xs contents d h t = other_declares section_kind.Memory counts xs contents d (λ e. omega (arith, e)) h t
+over_declares section_kind.Global counts xs contents d h t = other_declares section_kind.Global counts xs contents d (λ e. omega (arith, e)) h t
+over_declares section_kind.Export counts xs contents d h t = other_declares section_kind.Export counts xs contents d (λ e. omega (arith, e)) h t
+over_declares section_kind.Start counts xs contents d h t = other_declares section_kind.Start counts xs contents d (λ e. omega (arith, e)) h t
+over_declares section_kind.Element counts xs contents d h t = other_declares section_kind.Element counts xs contents d (λ e. omega (arith, e)) h t
+over_declares section_kind.Code counts xs contents d h t = other_declares section_kind.Code counts xs contents d (λ e. omega (arith, e)) h t
+over_declares section_kind.Segment counts xs contents d h t = other_declares section_kind.Segment counts xs contents d (λ e. omega (arith, e)) h t
 
 -- in another one
-in_member : (last : ℕ) (of : SectionKind) (functions bytes left : ℕ) (q : InMember) (b : List ℕ) → last < id_of of → (h : InContents last (id_of of) bytes b) → CountsIn of functions h.contents h.past.declared → Framed (machine_in_member of functions bytes left q) b
+in_member : (last : ℕ) (of : SectionKind) (counts : Counts) (bytes left : ℕ) (q : InMember) (b : List ℕ) → last < id_of of → (h : InContents last (id_of of) bytes b) → CountsIn of counts h.contents h.past.declared → Framed (machine_in_member of counts bytes left q) b
 unfolding ended
-in_member last of functions bytes left (at.Failed w) b up h t = tt
-in_member last of functions zero zero at.Over b up h t =
-    let d = over_declares of functions h.past.sections h.contents h.past.declared h.past.declares t in
+in_member last of counts bytes left (at.Failed w) b up h t = tt
+in_member last of counts zero zero at.Over b up h t =
+    let d = over_declares of counts h.past.sections h.contents h.past.declared h.past.declares t in
     (ended last (id_of of) b (id_of of) h (omega (arith, up)) (omega arith) (λ xs s. own_seen (id_of of) _ refl xs) d.0 d.1.0, d.1.1)
-in_member last of functions (suc n) zero at.Over b up h t = tt
-in_member last of functions zero (suc l) at.Over b up h t = tt
-in_member last of functions (suc n) (suc l) at.Over b up h t = (last, up, h, t)
-in_member last of functions zero left q b up h t = tt
-in_member last of functions (suc n) left q b up h t = (last, up, h, t)
+in_member last of counts (suc n) zero at.Over b up h t = tt
+in_member last of counts zero (suc l) at.Over b up h t = tt
+in_member last of counts (suc n) (suc l) at.Over b up h t = (last, up, h, t)
+in_member last of counts zero left q b up h t = tt
+in_member last of counts (suc n) left q b up h t = (last, up, h, t)
 
 -- at its count
-listed : (last : ℕ) (of : SectionKind) (functions bytes n : ℕ) (b : List ℕ) → last < id_of of → (h : InContents last (id_of of) bytes b) → CountsIn of functions h.contents h.past.declared → Framed (machine_after_count of functions bytes n) b
-listed last of functions bytes zero b up h t = in_member last of functions bytes zero at.Over b up h t
-listed last of functions bytes (suc n) b up h t = in_member last of functions bytes n (member_at_start of) b up h t
+listed : (last : ℕ) (of : SectionKind) (counts : Counts) (bytes n : ℕ) (b : List ℕ) → last < id_of of → (h : InContents last (id_of of) bytes b) → CountsIn of counts h.contents h.past.declared → Framed (machine_after_count of counts bytes n) b
+listed last of counts bytes zero b up h t = in_member last of counts bytes zero at.Over b up h t
+listed last of counts bytes (suc n) b up h t = in_member last of counts bytes n (member_at_start of) b up h t
 
-counted : (last : ℕ) (of : SectionKind) (functions bytes n : ℕ) (b : List ℕ) → last < id_of of → (h : InContents last (id_of of) bytes b) → Counts last functions h.past → SpellsU32 n h.contents → Framed (machine_after_paired_count of functions bytes n) b
-counted last section_kind.Function functions bytes n b up h t u = listed last section_kind.Function n bytes n b up h (h.contents, [], sym (append-nil h.contents), u)
-counted last section_kind.Code functions bytes n b up h t u =
-    cond_both (nat_eq n functions) _ _ (λ (m : Machine). Framed m b) (λ _. listed last section_kind.Code 0 bytes n b up h (λ l. absurd (omega (arith, l)))) (λ _. tt)
-counted last section_kind.Type functions bytes n b up h t u = listed last section_kind.Type functions bytes n b up h (λ l. t (omega (arith, l, up)))
-counted last section_kind.Import functions bytes n b up h t u = listed last section_kind.Import functions bytes n b up h (λ l. t (omega (arith, l, up)))
-counted last section_kind.Table functions bytes n b up h t u = listed last section_kind.Table functions bytes n b up h (λ l. t (omega (arith, l, up)))
-counted last section_kind.Memory functions bytes n b up h t u = listed last section_kind.Memory functions bytes n b up h (λ l. t (omega (arith, l, up)))
-counted last section_kind.Global functions bytes n b up h t u = listed last section_kind.Global functions bytes n b up h (λ l. t (omega (arith, l, up)))
-counted last section_kind.Export functions bytes n b up h t u = listed last section_kind.Export functions bytes n b up h (λ l. t (omega (arith, l, up)))
-counted last section_kind.Start functions bytes n b up h t u = listed last section_kind.Start functions bytes n b up h (λ l. t (omega (arith, l, up)))
-counted last section_kind.Element functions bytes n b up h t u = listed last section_kind.Element functions bytes n b up h (λ l. t (omega (arith, l, up)))
-counted last section_kind.Segment functions bytes n b up h t u = listed last section_kind.Segment functions bytes n b up h (λ l. absurd (omega (arith, l)))
+counted : (last : ℕ) (of : SectionKind) (counts : Counts) (bytes n : ℕ) (b : List ℕ) → last < id_of of → (h : InContents last (id_of of) bytes b) → CountsStand last counts h.past → SpellsU32 n h.contents → Framed (machine_after_paired_count of counts bytes n) b
+counted last section_kind.Function counts bytes n b up h t u = listed last section_kind.Function (counts_in section_kind.Function counts n) bytes n b up h (h.contents, [], sym (append-nil h.contents), u)
+counted last section_kind.Code counts bytes n b up h t u =
+    cond_both (nat_eq n counts.functions) _ _ (λ (m : Machine). Framed m b) (λ _. listed last section_kind.Code (counts_in section_kind.Code counts n) bytes n b up h (λ l. absurd (omega (arith, l)))) (λ _. tt)
+counted last section_kind.Type counts bytes n b up h t u = listed last section_kind.Type (counts_in section_kind.Type counts n) bytes n b up h (λ l. t (omega (arith, l, up)))
+counted last section_kind.Import counts bytes n b up h t u = listed last section_kind.Import (counts_in section_kind.Import counts n) bytes n b up h (λ l. t (omega (arith, l, up)))
+counted last section_kind.Table counts bytes n b up h t u = listed last section_kind.Table (counts_in section_kind.Table counts n) bytes n b up h (λ l. t (omega (arith, l, up)))
+counted last section_kind.Memory counts bytes n b up h t u = listed last section_kind.Memory (counts_in section_kind.Memory counts n) bytes n b up h (λ l. t (omega (arith, l, up)))
+counted last section_kind.Global counts bytes n b up h t u = listed last section_kind.Global (counts_in section_kind.Global counts n) bytes n b up h (λ l. t (omega (arith, l, up)))
+counted last section_kind.Export counts bytes n b up h t u = listed last section_kind.Export (counts_in section_kind.Export counts n) bytes n b up h (λ l. t (omega (arith, l, up)))
+counted last section_kind.Start counts bytes n b up h t u = listed last section_kind.Start (counts_in section_kind.Start counts n) bytes n b up h (λ l. t (omega (arith, l, up)))
+counted last section_kind.Element counts bytes n b up h t u = listed last section_kind.Element (counts_in section_kind.Element counts n) bytes n b up h (λ l. t (omega (arith, l, up)))
+counted last section_kind.Segment counts bytes n b up h t u = listed last section_kind.Segment (counts_in section_kind.Segment counts n) bytes n b up h (λ l. absurd (omega (arith, l)))
 
 -- the number so far, or the number
 abbrev pub Numbers : List ℕ → Step ℕ × Partial → Type 0
@@ -248,25 +249,25 @@ numbers r y c byte u = go (unsigned_push 32 r c) (number_next r c byte)
     go (Done v, s) next = (u.same v c []).1 ((next v []).1 (refl, refl))
     go (Bad, s) next = tt
 
-at_count : (last : ℕ) (of : SectionKind) (functions more : ℕ) (q : Step ℕ × Partial) (b : List ℕ) → last < id_of of → (h : InContents last (id_of of) more b) → Counts last functions h.past → Numbers h.contents q → Framed (after_count of functions more q).0 b
-at_count last of functions zero (More, r) b up h t u = tt
-at_count last of functions (suc n) (More, r) b up h t u = (last, up, h, t, u)
-at_count last of functions more (Done n, r) b up h t u = counted last of functions more n b up h t u
-at_count last of functions more (Bad, r) b up h t u = tt
+at_count : (last : ℕ) (of : SectionKind) (counts : Counts) (more : ℕ) (q : Step ℕ × Partial) (b : List ℕ) → last < id_of of → (h : InContents last (id_of of) more b) → CountsStand last counts h.past → Numbers h.contents q → Framed (after_count of counts more q).0 b
+at_count last of counts zero (More, r) b up h t u = tt
+at_count last of counts (suc n) (More, r) b up h t u = (last, up, h, t, u)
+at_count last of counts more (Done n, r) b up h t u = counted last of counts more n b up h t u
+at_count last of counts more (Bad, r) b up h t u = tt
 
 -- at its size
-abbrev pub Sizes : ℕ → ℕ → ℕ → List ℕ → Step ℕ × Partial → Type 0
-Sizes last functions id b (More, r) = (h : AtSize last id r b) × Counts last functions h.past
-Sizes last functions id b (Done n, r) = (h : InContents last id n b) × Counts last functions h.past × (h.contents ≡ [])
-Sizes last functions id b (Bad, r) = Unit {0}
+abbrev pub Sizes : ℕ → Counts → ℕ → List ℕ → Step ℕ × Partial → Type 0
+Sizes last counts id b (More, r) = (h : AtSize last id r b) × CountsStand last counts h.past
+Sizes last counts id b (Done n, r) = (h : InContents last id n b) × CountsStand last counts h.past × (h.contents ≡ [])
+Sizes last counts id b (Bad, r) = Unit {0}
 
-pub at_size : (last functions id : ℕ) (r : Partial) (b : List ℕ) (c : ℕ) → c < 2 ^ 8 → (h : AtSize last id r b) → Counts last functions h.past → Sizes last functions id (b ++ c ∷ []) (unsigned_push 32 r c)
-at_size last functions id r b c byte h t = go (unsigned_push 32 r c) (numbers r h.begun c byte h.number)
+pub at_size : (last : ℕ) (counts : Counts) (id : ℕ) (r : Partial) (b : List ℕ) (c : ℕ) → c < 2 ^ 8 → (h : AtSize last id r b) → CountsStand last counts h.past → Sizes last counts id (b ++ c ∷ []) (unsigned_push 32 r c)
+at_size last counts id r b c byte h t = go (unsigned_push 32 r c) (numbers r h.begun c byte h.number)
   where
     joined : b ++ c ∷ [] ≡ h.front ++ id ∷ (h.begun ++ c ∷ [])
     joined = ap (λ y. y ++ c ∷ []) h.whole ∙ append_assoc h.front (id ∷ h.begun) (c ∷ [])
 
-    go : (q : Step ℕ × Partial) → Numbers (h.begun ++ c ∷ []) q → Sizes last functions id (b ++ c ∷ []) q
+    go : (q : Step ℕ × Partial) → Numbers (h.begun ++ c ∷ []) q → Sizes last counts id (b ++ c ∷ []) q
     go (More, s) u = (record { front = h.front; begun = h.begun ++ c ∷ []; whole = joined; past = h.past; number = u }, t)
     go (Done v, s) u = (
       record {
@@ -284,63 +285,66 @@ at_size last functions id r b c byte h t = go (unsigned_push 32 r c) (numbers r 
     )
     go (Bad, s) u = tt
 
-at_custom_size : (last functions : ℕ) (q : Step ℕ × Partial) (b : List ℕ) → Sizes last functions 0 b q
-    → Framed (on_number q (λ s. machine.CustomSize last functions s) (λ n. (custom_size last functions n, event.Nothing)) machine.Refused).0 b
-at_custom_size last functions (More, r) b h = h
-at_custom_size last functions (Done n, r) b h = in_custom last functions n (custom.Length fresh) b h.0 h.1
-at_custom_size last functions (Bad, r) b h = tt
+at_custom_size : (last : ℕ) (counts : Counts) (q : Step ℕ × Partial) (b : List ℕ) → Sizes last counts 0 b q
+    → Framed (on_number q (λ s. machine.CustomSize last counts s) (λ n. (custom_size last counts n, event.Nothing)) machine.Refused).0 b
+at_custom_size last counts (More, r) b h = h
+at_custom_size last counts (Done n, r) b h = in_custom last counts n (custom.Length fresh) b h.0 h.1
+at_custom_size last counts (Bad, r) b h = tt
 
-in_contents : (last : ℕ) (of : SectionKind) (functions n : ℕ) (b : List ℕ) → last < id_of of → (h : InContents last (id_of of) n b) → Counts last functions h.past → h.contents ≡ [] → Framed (after_size of functions n) b
-in_contents last of functions zero b up h t e = tt
-in_contents last section_kind.Start functions (suc n) b up h t e = (last, up, h, λ l. t (omega (arith, l, up)))
-in_contents last section_kind.Type functions (suc n) b up h t e = (last, up, h, t, begins_number h.contents e)
-in_contents last section_kind.Import functions (suc n) b up h t e = (last, up, h, t, begins_number h.contents e)
-in_contents last section_kind.Function functions (suc n) b up h t e = (last, up, h, t, begins_number h.contents e)
-in_contents last section_kind.Table functions (suc n) b up h t e = (last, up, h, t, begins_number h.contents e)
-in_contents last section_kind.Memory functions (suc n) b up h t e = (last, up, h, t, begins_number h.contents e)
-in_contents last section_kind.Global functions (suc n) b up h t e = (last, up, h, t, begins_number h.contents e)
-in_contents last section_kind.Export functions (suc n) b up h t e = (last, up, h, t, begins_number h.contents e)
-in_contents last section_kind.Element functions (suc n) b up h t e = (last, up, h, t, begins_number h.contents e)
-in_contents last section_kind.Code functions (suc n) b up h t e = (last, up, h, t, begins_number h.contents e)
-in_contents last section_kind.Segment functions (suc n) b up h t e = (last, up, h, t, begins_number h.contents e)
+in_contents : (last : ℕ) (of : SectionKind) (counts : Counts) (n : ℕ) (b : List ℕ) → last < id_of of → (h : InContents last (id_of of) n b) → CountsStand last counts h.past → h.contents ≡ [] → Framed (after_size of counts n) b
+in_contents last of counts zero b up h t e = tt
+in_contents last section_kind.Start counts (suc n) b up h t e = (last, up, h, λ l. t (omega (arith, l, up)))
+in_contents last section_kind.Type counts (suc n) b up h t e = (last, up, h, t, begins_number h.contents e)
+in_contents last section_kind.Import counts (suc n) b up h t e = (last, up, h, t, begins_number h.contents e)
+in_contents last section_kind.Function counts (suc n) b up h t e = (last, up, h, t, begins_number h.contents e)
+in_contents last section_kind.Table counts (suc n) b up h t e = (last, up, h, t, begins_number h.contents e)
+in_contents last section_kind.Memory counts (suc n) b up h t e = (last, up, h, t, begins_number h.contents e)
+in_contents last section_kind.Global counts (suc n) b up h t e = (last, up, h, t, begins_number h.contents e)
+in_contents last section_kind.Export counts (suc n) b up h t e = (last, up, h, t, begins_number h.contents e)
+in_contents last section_kind.Element counts (suc n) b up h t e = (last, up, h, t, begins_number h.contents e)
+in_contents last section_kind.Code counts (suc n) b up h t e = (last, up, h, t, begins_number h.contents e)
+in_contents last section_kind.Segment counts (suc n) b up h t e = (last, up, h, t, begins_number h.contents e)
 
-at_its_size : (last : ℕ) (of : SectionKind) (functions : ℕ) (q : Step ℕ × Partial) (b : List ℕ) → last < id_of of → Sizes last functions (id_of of) b q
-    → Framed (on_number q (λ s. machine.Size of functions s) (λ n. (after_size of functions n, event.Nothing)) machine.Refused).0 b
-at_its_size last of functions (More, r) b up h = (last, up, h.0, h.1)
-at_its_size last of functions (Done n, r) b up h = in_contents last of functions n b up h.0 h.1 h.2
-at_its_size last of functions (Bad, r) b up h = tt
+at_its_size : (last : ℕ) (of : SectionKind) (counts : Counts) (q : Step ℕ × Partial) (b : List ℕ) → last < id_of of → Sizes last counts (id_of of) b q
+    → Framed (on_number q (λ s. machine.Size of counts s) (λ n. (after_size of counts n, event.Nothing)) machine.Refused).0 b
+at_its_size last of counts (More, r) b up h = (last, up, h.0, h.1)
+at_its_size last of counts (Done n, r) b up h = in_contents last of counts n b up h.0 h.1 h.2
+at_its_size last of counts (Bad, r) b up h = tt
 
 -- at its id
 begins : (last id : ℕ) (b : List ℕ) → Past last b → AtSize last id fresh (b ++ id ∷ [])
 begins last id b h = record { front = b; begun = []; whole = refl; past = h; number = unsigned_fresh 32 (omega arith) }
 
-begun : (last : ℕ) (of : SectionKind) (functions : ℕ) (b : List ℕ) → last < id_of of → (h : AtSize last (id_of of) fresh b) → Counts last functions h.past → Framed (begun_section of functions).0 b
-begun last section_kind.Segment zero b up h t = (last, up, h, t)
-begun last section_kind.Segment (suc n) b up h t = tt
-begun last section_kind.Type functions b up h t = (last, up, h, t)
-begun last section_kind.Import functions b up h t = (last, up, h, t)
-begun last section_kind.Function functions b up h t = (last, up, h, t)
-begun last section_kind.Table functions b up h t = (last, up, h, t)
-begun last section_kind.Memory functions b up h t = (last, up, h, t)
-begun last section_kind.Global functions b up h t = (last, up, h, t)
-begun last section_kind.Export functions b up h t = (last, up, h, t)
-begun last section_kind.Start functions b up h t = (last, up, h, t)
-begun last section_kind.Element functions b up h t = (last, up, h, t)
-begun last section_kind.Code functions b up h t = (last, up, h, t)
+begun : (last : ℕ) (of : SectionKind) (counts : Counts) (b : List ℕ) → last < id_of of → (h : AtSize last (id_of of) fresh b) → CountsStand last counts h.past → Framed (begun_section of counts).0 b
+begun last section_kind.Segment counts b up h t = at_last counts.functions
+  where
+    at_last : (n : ℕ) → Framed (begun_last n counts).0 b
+    at_last zero = (last, up, h, t)
+    at_last (suc n) = tt
+begun last section_kind.Type counts b up h t = (last, up, h, t)
+begun last section_kind.Import counts b up h t = (last, up, h, t)
+begun last section_kind.Function counts b up h t = (last, up, h, t)
+begun last section_kind.Table counts b up h t = (last, up, h, t)
+begun last section_kind.Memory counts b up h t = (last, up, h, t)
+begun last section_kind.Global counts b up h t = (last, up, h, t)
+begun last section_kind.Export counts b up h t = (last, up, h, t)
+begun last section_kind.Start counts b up h t = (last, up, h, t)
+begun last section_kind.Element counts b up h t = (last, up, h, t)
+begun last section_kind.Code counts b up h t = (last, up, h, t)
 
-rising : (last functions id : ℕ) (q : Option SectionKind) (b : List ℕ) → IsNamed id q → (h : Past last b) → Counts last functions h → Framed (machine_if_rising last functions id q).0 (b ++ id ∷ [])
-rising last functions id None b named h t = tt
-rising last functions id (Some of) b named h t =
+rising : (last : ℕ) (counts : Counts) (id : ℕ) (q : Option SectionKind) (b : List ℕ) → IsNamed id q → (h : Past last b) → CountsStand last counts h → Framed (machine_if_rising last counts id q).0 (b ++ id ∷ [])
+rising last counts id None b named h t = tt
+rising last counts id (Some of) b named h t =
     cond_both (nat_le id last) _ _ (λ (q : Machine × Event). Framed q.0 (b ++ id ∷ [])) (λ _. tt)
-    (λ a. begun last of functions (b ++ id ∷ []) (let above : last < id = leb-false id last a in omega (arith, above, named)) (at_id named) t)
+    (λ a. begun last of counts (b ++ id ∷ []) (let above : last < id = leb-false id last a in omega (arith, above, named)) (at_id named) t)
   where
     at_id : (e : id ≡ id_of of) → AtSize last (id_of of) fresh (b ++ id ∷ [])
     at_id e = record { front = b; begun = []; whole = ap (λ i. b ++ i ∷ []) e; past = h; number = unsigned_fresh 32 (omega arith) }
 
-starts : (last functions c : ℕ) (b : List ℕ) (h : Past last b) → Counts last functions h → Framed (section_start last functions c).0 (b ++ c ∷ [])
+starts : (last : ℕ) (counts : Counts) (c : ℕ) (b : List ℕ) (h : Past last b) → CountsStand last counts h → Framed (section_start last counts c).0 (b ++ c ∷ [])
 unfolding begins
-starts last functions zero b h t = (begins last 0 b h, t)
-starts last functions (suc m) b h t = rising last functions (suc m) (section_kind_of (suc m)) b (component_named m) h t
+starts last counts zero b h t = (begins last 0 b h, t)
+starts last counts (suc m) b h t = rising last counts (suc m) (section_kind_of (suc m)) b (component_named m) h t
 
 -- in the header
 header_more : (n : ℕ) → n < 8 → take n header ++ slice_index header n ∷ [] ≡ take (n + 1) header
@@ -372,13 +376,13 @@ in_header n c b low e =
 pub step_framed : (p : Profile) (m : Machine) (c : ℕ) (b : List ℕ) → c < 2 ^ 8 → Framed m b → Framed (step_of p m c).0 (b ++ c ∷ [])
 unfolding one_byte
 step_framed p (machine.Header n) c b byte h = in_header n c b h.0 h.1
-step_framed p (machine.Between last functions) c b byte h = starts last functions c b h.0 h.1
-step_framed p (machine.CustomSize last functions r) c b byte h = at_custom_size last functions (unsigned_push 32 r c) (b ++ c ∷ []) (at_size last functions 0 r b c byte h.0 h.1)
-step_framed p (machine.Custom last functions more q) c b byte h = in_custom last functions more (custom_step q c).0 (b ++ c ∷ []) (one_byte last 0 more b c h.0) h.1
-step_framed p (machine.Size of functions r) c b byte h = at_its_size h.0 of functions (unsigned_push 32 r c) (b ++ c ∷ []) h.1 (at_size h.0 functions (id_of of) r b c byte h.2 h.3)
-step_framed p (machine.Count of functions more r) c b byte h = at_count h.0 of functions more (unsigned_push 32 r c) (b ++ c ∷ []) h.1 (one_byte h.0 (id_of of) more b c h.2) h.3 (numbers r h.2.contents c byte h.4)
-step_framed p (machine.Section of functions more left q) c b byte h =
-    in_member h.0 of functions more left (member_step p q c).0 (b ++ c ∷ []) h.1 (one_byte h.0 (id_of of) more b c h.2) (one_more of functions h.2.contents h.2.past.declared c h.3)
+step_framed p (machine.Between last counts) c b byte h = starts last counts c b h.0 h.1
+step_framed p (machine.CustomSize last counts r) c b byte h = at_custom_size last counts (unsigned_push 32 r c) (b ++ c ∷ []) (at_size last counts 0 r b c byte h.0 h.1)
+step_framed p (machine.Custom last counts more q) c b byte h = in_custom last counts more (custom_step q c).0 (b ++ c ∷ []) (one_byte last 0 more b c h.0) h.1
+step_framed p (machine.Size of counts r) c b byte h = at_its_size h.0 of counts (unsigned_push 32 r c) (b ++ c ∷ []) h.1 (at_size h.0 counts (id_of of) r b c byte h.2 h.3)
+step_framed p (machine.Count of counts more r) c b byte h = at_count h.0 of counts more (unsigned_push 32 r c) (b ++ c ∷ []) h.1 (one_byte h.0 (id_of of) more b c h.2) h.3 (numbers r h.2.contents c byte h.4)
+step_framed p (machine.Section of counts more left q) c b byte h =
+    in_member h.0 of counts more left (member_step p q c).0 (b ++ c ∷ []) h.1 (one_byte h.0 (id_of of) more b c h.2) (one_more of counts h.2.contents h.2.past.declared c h.3)
 step_framed p (machine.Refused w) c b byte h = tt
 
 heard_framed : (zone : Zone) (y : List ℕ) (c : ℕ) (m : Machine) (e : Event) (b : List ℕ) → Framed m b → Framed (byte_read machine.Refused zone y c (m, e)).at b

@@ -4,6 +4,7 @@ use Rattle.std.proofs.lemmas.Bool.{cond_both}
 use Rattle.std.specs.Str.{is_utf8}
 use Rattle.wm_syntax.specs.declared.profile.Profile.{Profile}
 use Rattle.wm_syntax.specs.Spelling.{AreBytes}
+use Rattle.wm_machine.specs.declared.machine.Counts.{Counts}
 use Rattle.wm_machine.specs.declared.machine.InCustom.{InCustom}
 use Rattle.wm_machine.specs.declared.machine.InCustom.TheVariants as custom
 use Rattle.wm_machine.specs.declared.machine.Machine.{Machine}
@@ -19,7 +20,7 @@ use Rattle.wm_machine.specs.MarkedForms.{MarkedForm, MarkedByte, Then, Times, Co
 use Rattle.wm_machine.specs.Sections.{header}
 use Rattle.wm_machine.specs.Grammar.{Contents, Customs, Optional, MayMiss, Chain, loose}
 use Rattle.wm_machine.specs.exact.Members.{id_of, section_kind_of}
-use Rattle.wm_machine.specs.exact.Steps.{step_of}
+use Rattle.wm_machine.specs.exact.Steps.{no_counts, step_of}
 use Rattle.wm_machine.specs.exact.Runs.{zone_in, zone_of, byte_read, ByteRead, MachineState, after_byte, state_after, marks, state_at_start}
 use Rattle.wm_machine.specs.exact.Live.{IsRefused}
 use Rattle.wm_machine.specs.Fronts.{IsFront, name_more, name_after, unfinished_name}
@@ -78,8 +79,8 @@ module _ (p : Profile) where
   some_for : (C : ℕ → Type 0) (P : ℕ → MarkedForm) (f : ℕ) → C f → Comes (P f) → Comes (ForSome C P)
   some_for C P f c s = record { bytes = s.bytes; marks = s.marks; spelled = (f, c, s.spelled) }
 
-  pub some_later : (last functions : ℕ) → Comes (Later loose p last functions)
-  some_later last functions = some_for (Known last functions) (λ f. Chain loose p f (11 - last) (suc last)) functions (λ l. refl) (some_chain functions (11 - last) (suc last))
+  pub some_later : (last : ℕ) (counts : Counts) → Comes (Later loose p last counts)
+  some_later last counts = some_for (Known last counts) (λ f. Chain loose p f (11 - last) (suc last)) counts.functions (λ l. refl) (some_chain counts.functions (11 - last) (suc last))
 
   pub some_after : (of : SectionKind) (f : ℕ) → Comes (After loose p of f)
   some_after of f = some_chain f (11 - id_of of) (suc (id_of of))
@@ -91,17 +92,17 @@ module _ (p : Profile) where
   some_within of left more q y go = some_then (ComponentRest loose p q y) (Times left (OneOf loose p of)) (some_component p more q y go) (some_times left (OneOf loose p of) (some_one p of))
 
   pub some_machine : (m : Machine) (y : List ℕ) → Fits p m → (IsRefused m → ⊥) → Comes (MachineRest loose p m y)
-  some_machine (machine.Header n) y h live = let l = some_later 0 0 in
+  some_machine (machine.Header n) y h live = let l = some_later 0 no_counts in
       record { bytes = drop n header ++ l.bytes; marks = marks_ending None (drop n header) ++ l.marks; spelled = (h, record { front = drop n header; back = l.bytes; front_marks = marks_ending None (drop n header); back_marks = l.marks; bytes = refl; marks = refl; first = (refl, refl); second = l.spelled }) }
-  some_machine (machine.Between last functions) y h live = some_later last functions
-  some_machine (machine.CustomSize last functions r) y h live = some_counted nothing_at (λ n. Then (Filled loose n (Name loose unnamed)) (Later loose p last functions)) r h.0 (λ n. some_then (Filled loose n (Name loose unnamed)) (Later loose p last functions) (some_filled n (Name loose unnamed) (some_name unnamed)) (some_later last functions))
-  some_machine (machine.Custom last functions more q) y h live = some_then (CustomRest loose (suc more) q y) (Later loose p last functions) (some_custom (suc more) q y h.1) (some_later last functions)
-  some_machine (machine.Size of functions r) y h live = some_for (KnownIn (id_of of) functions) (λ f. Counted (Left r) nothing_at (InSize loose p of f)) functions (λ l. refl) (some_counted nothing_at (InSize loose p of functions) r h.0 (some_size of functions))
-  some_machine (machine.Count of functions more r) y h live =
-      some_for (KnownIn (id_of of) functions) (λ f. Then (Sized loose (suc more) (Listed loose p of r f)) (After loose p of f)) functions (λ l. refl)
-      (some_then (Sized loose (suc more) (Listed loose p of r functions)) (After loose p of functions) (some_sized (suc more) (Listed loose p of r functions) (some_counted nothing_at (ListOf loose p of functions) r h.0 (some_listed of functions))) (some_after of functions))
-  some_machine (machine.Section of functions more left q) y h live =
-      some_then (Sized loose (suc more) (Within loose p of left q y)) (Later loose p (id_of of) functions) (some_sized (suc more) (Within loose p of left q y) (some_within of left (suc more) q y h.2)) (some_later (id_of of) functions)
+  some_machine (machine.Between last counts) y h live = some_later last counts
+  some_machine (machine.CustomSize last counts r) y h live = some_counted nothing_at (λ n. Then (Filled loose n (Name loose unnamed)) (Later loose p last counts)) r h.0 (λ n. some_then (Filled loose n (Name loose unnamed)) (Later loose p last counts) (some_filled n (Name loose unnamed) (some_name unnamed)) (some_later last counts))
+  some_machine (machine.Custom last counts more q) y h live = some_then (CustomRest loose (suc more) q y) (Later loose p last counts) (some_custom (suc more) q y h.1) (some_later last counts)
+  some_machine (machine.Size of counts r) y h live = some_for (KnownIn (id_of of) counts) (λ f. Counted (Left r) nothing_at (InSize loose p of f)) counts.functions (λ l. refl) (some_counted nothing_at (InSize loose p of counts.functions) r h.0 (some_size of counts.functions))
+  some_machine (machine.Count of counts more r) y h live =
+      some_for (KnownIn (id_of of) counts) (λ f. Then (Sized loose (suc more) (Listed loose p of r f)) (After loose p of f)) counts.functions (λ l. refl)
+      (some_then (Sized loose (suc more) (Listed loose p of r counts.functions)) (After loose p of counts.functions) (some_sized (suc more) (Listed loose p of r counts.functions) (some_counted nothing_at (ListOf loose p of counts.functions) r h.0 (some_listed of counts.functions))) (some_after of counts.functions))
+  some_machine (machine.Section of counts more left q) y h live =
+      some_then (Sized loose (suc more) (Within loose p of left q y)) (Later loose p (id_of of) counts) (some_sized (suc more) (Within loose p of left q y) (some_within of left (suc more) q y h.2)) (some_later (id_of of) counts)
   some_machine (machine.Refused w) y h live = absurd (live tt)
 
   pub length_marks : (b : List ℕ) (s : MachineState) → length b ≡ length (marks p s b)
@@ -125,7 +126,7 @@ no_name (at.Entry (suc m) q) n = refl
 no_name q n = refl
 
 outside_name : (m : Machine) (n : ℕ) → name_more (zone_of m) n ≡ 0
-outside_name (machine.Section of functions more left q) n = no_name q n
+outside_name (machine.Section of counts more left q) n = no_name q n
 outside_name m n = refl
 
 heard_name : (zone : Zone) → ((n : ℕ) → name_more zone n ≡ 0) → (name : List ℕ) (c : ℕ) (m : Machine) (e : Event) → length (byte_read machine.Refused zone name c (m, e)).name ≡ name_more (byte_read machine.Refused zone name c (m, e)).mark.zone (length name)

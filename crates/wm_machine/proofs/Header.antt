@@ -38,12 +38,12 @@ header_at n c at h =
 late_live : (at : ℕ) → 8 ≤ at → (m : Machine) → IsLive m → IsAt m (at + 1)
 late_live at h (machine.Header n) i = absurd i
 late_live at h (machine.Refused w) i = absurd i
-late_live at h (machine.Between last functions) i = omega arith
-late_live at h (machine.CustomSize last functions r) i = omega arith
-late_live at h (machine.Custom last functions more q) i = omega arith
-late_live at h (machine.Size of functions r) i = omega arith
-late_live at h (machine.Count of functions more r) i = omega arith
-late_live at h (machine.Section of functions more left q) i = omega arith
+late_live at h (machine.Between last counts) i = omega arith
+late_live at h (machine.CustomSize last counts r) i = omega arith
+late_live at h (machine.Custom last counts more q) i = omega arith
+late_live at h (machine.Size of counts r) i = omega arith
+late_live at h (machine.Count of counts more r) i = omega arith
+late_live at h (machine.Section of counts more left q) i = omega arith
 
 late_refused : (at : ℕ) → 8 ≤ at → (w : Why) → IsAt (machine.Refused w) (at + 1)
 late_refused at h w = λ e. omega arith
@@ -56,22 +56,22 @@ late p m c at past h =
 pub stays : (p : Profile) (m : Machine) (c at : ℕ) → IsAt m at → IsAt (step_of p m c).0 (at + 1)
 stays p (machine.Header n) c at h = (header_at n c at h).0
 stays p (machine.Refused w) c at h = λ e. let l : 8 < at = h e in omega arith
-stays p (machine.Between last functions) c at h = late p (machine.Between last functions) c at (λ i. i) h
-stays p (machine.CustomSize last functions r) c at h = late p (machine.CustomSize last functions r) c at (λ i. i) h
-stays p (machine.Custom last functions more q) c at h = late p (machine.Custom last functions more q) c at (λ i. i) h
-stays p (machine.Size of functions r) c at h = late p (machine.Size of functions r) c at (λ i. i) h
-stays p (machine.Count of functions more r) c at h = late p (machine.Count of functions more r) c at (λ i. i) h
-stays p (machine.Section of functions more left q) c at h = late p (machine.Section of functions more left q) c at (λ i. i) h
+stays p (machine.Between last counts) c at h = late p (machine.Between last counts) c at (λ i. i) h
+stays p (machine.CustomSize last counts r) c at h = late p (machine.CustomSize last counts r) c at (λ i. i) h
+stays p (machine.Custom last counts more q) c at h = late p (machine.Custom last counts more q) c at (λ i. i) h
+stays p (machine.Size of counts r) c at h = late p (machine.Size of counts r) c at (λ i. i) h
+stays p (machine.Count of counts more r) c at h = late p (machine.Count of counts more r) c at (λ i. i) h
+stays p (machine.Section of counts more left q) c at h = late p (machine.Section of counts more left q) c at (λ i. i) h
 
 pub quiet_or_late : (p : Profile) (m : Machine) (c at : ℕ) → IsAt m at → ((step_of p m c).1 ≡ event.Nothing) ⊎ (8 ≤ at)
 quiet_or_late p (machine.Header n) c at h = inl (header_at n c at h).1
 quiet_or_late p (machine.Refused w) c at h = inl refl
-quiet_or_late p (machine.Between last functions) c at h = inr h
-quiet_or_late p (machine.CustomSize last functions r) c at h = inr h
-quiet_or_late p (machine.Custom last functions more q) c at h = inr h
-quiet_or_late p (machine.Size of functions r) c at h = inr h
-quiet_or_late p (machine.Count of functions more r) c at h = inr h
-quiet_or_late p (machine.Section of functions more left q) c at h = inr h
+quiet_or_late p (machine.Between last counts) c at h = inr h
+quiet_or_late p (machine.CustomSize last counts r) c at h = inr h
+quiet_or_late p (machine.Custom last counts more q) c at h = inr h
+quiet_or_late p (machine.Size of counts r) c at h = inr h
+quiet_or_late p (machine.Count of counts more r) c at h = inr h
+quiet_or_late p (machine.Section of counts more left q) c at h = inr h
 
 names : (n : Machine) (at : ℕ) (w : Why) → IsAt n at → refusal_in_machine n ≡ Some w → w ≡ why.Memory → 8 < at
 names (machine.Refused v) at w h e m = let s : v ≡ w = cc in h (s ∙ m)

@@ -17,6 +17,7 @@ use Rattle.wm_machine.specs.declared.step.expressions.InExpression.{InExpression
 use Rattle.wm_machine.specs.declared.step.expressions.InExpression.TheVariants as expression
 use Rattle.wm_machine.specs.declared.machine.Event.{Event}
 use Rattle.wm_machine.specs.declared.machine.Event.TheVariants as event
+use Rattle.wm_machine.specs.declared.machine.Counts.{Counts}
 use Rattle.wm_machine.specs.declared.machine.Machine.{Machine}
 use Rattle.wm_machine.specs.declared.machine.Machine.TheVariants as machine
 use Rattle.wm_machine.specs.declared.machine.Plain.TheVariants as plain
@@ -54,56 +55,56 @@ use Rattle.wm_machine.proofs.ExpressionSound.{expression_fault}
 -- the machine in a code entry, with so many bytes of it after the next
 pub record AtEntry (m : Machine) : Type 0 where
   pub of : SectionKind
-  pub functions : ℕ
+  pub counts : Counts
   pub more : ℕ
   pub left : ℕ
   pub rest : ℕ
   pub place : InEntry
-  pub is : m ≡ machine.Section of functions more left (at.Entry rest place)
+  pub is : m ≡ machine.Section of counts more left (at.Entry rest place)
 
-abbrev entry_machine : SectionKind → ℕ → ℕ → ℕ → ℕ → InEntry → Machine
-entry_machine of functions more left rest q = machine.Section of functions more left (at.Entry rest q)
+abbrev entry_machine : SectionKind → Counts → ℕ → ℕ → ℕ → InEntry → Machine
+entry_machine of counts more left rest q = machine.Section of counts more left (at.Entry rest q)
 
 -- within a code entry the machine stands in one, or has refused
 abbrev Enters : Machine → Type 0
 Enters m = IsRefused m ⊎ AtEntry m
 
-framed_enters : (of : SectionKind) (functions more left rest : ℕ) (q : InEntry) → Enters (machine_in_member of functions more left (at.Entry rest q))
-framed_enters of functions zero left rest q = inl tt
-framed_enters of functions (suc n) left rest q = inr (record { of = of; functions = functions; more = n; left = left; rest = rest; place = q; is = refl })
+framed_enters : (of : SectionKind) (counts : Counts) (more left rest : ℕ) (q : InEntry) → Enters (machine_in_member of counts more left (at.Entry rest q))
+framed_enters of counts zero left rest q = inl tt
+framed_enters of counts (suc n) left rest q = inr (record { of = of; counts = counts; more = n; left = left; rest = rest; place = q; is = refl })
 
-entry_enters : (of : SectionKind) (functions more left rest : ℕ) (q : InEntry) → Enters (machine_in_member of functions more left (member_in_entry (suc rest) q))
-entry_enters of functions more left rest (entry.Failed w) = inl tt
-entry_enters of functions more left rest entry.Over = inl tt
-entry_enters of functions more left rest (entry.RunCount r) = framed_enters of functions more left rest (entry.RunCount r)
-entry_enters of functions more left rest (entry.Run n r) = framed_enters of functions more left rest (entry.Run n r)
-entry_enters of functions more left rest (entry.Body e) = framed_enters of functions more left rest (entry.Body e)
+entry_enters : (of : SectionKind) (counts : Counts) (more left rest : ℕ) (q : InEntry) → Enters (machine_in_member of counts more left (member_in_entry (suc rest) q))
+entry_enters of counts more left rest (entry.Failed w) = inl tt
+entry_enters of counts more left rest entry.Over = inl tt
+entry_enters of counts more left rest (entry.RunCount r) = framed_enters of counts more left rest (entry.RunCount r)
+entry_enters of counts more left rest (entry.Run n r) = framed_enters of counts more left rest (entry.Run n r)
+entry_enters of counts more left rest (entry.Body e) = framed_enters of counts more left rest (entry.Body e)
 
 step_enters : (p : Profile) (m : Machine) (c : ℕ) → zone_of m ≡ in_entry → Enters (step_of p m c).0
-step_enters p (machine.Section of functions more left (at.Entry zero q)) c e = cc
-step_enters p (machine.Section of functions more left (at.Entry (suc n) q)) c e = entry_enters of functions more left n (entry_step p q c).0
-step_enters p (machine.Section of functions more left at.TypeForm) c e = cc
-step_enters p (machine.Section of functions more left (at.ParamCount r)) c e = cc
-step_enters p (machine.Section of functions more left (at.Param n)) c e = cc
-step_enters p (machine.Section of functions more left (at.ResultCount r)) c e = cc
-step_enters p (machine.Section of functions more left (at.ResultType n)) c e = cc
-step_enters p (machine.Section of functions more left (at.NameLength k r)) c e = cc
-step_enters p (machine.Section of functions more left (at.Name k n)) c e = cc
-step_enters p (machine.Section of functions more left (at.Value v)) c e = cc
-step_enters p (machine.Section of functions more left (at.Index x r)) c e = cc
-step_enters p (machine.Section of functions more left (at.GlobalType g)) c e = cc
-step_enters p (machine.Section of functions more left (at.Constant k x)) c e = cc
-step_enters p (machine.Section of functions more left (at.Length k r)) c e = cc
-step_enters p (machine.Section of functions more left (at.Data n)) c e = cc
-step_enters p (machine.Section of functions more left (at.EntrySize r)) c e = cc
-step_enters p (machine.Section of functions more left at.Over) c e = cc
-step_enters p (machine.Section of functions more left (at.Failed w)) c e = cc
+step_enters p (machine.Section of counts more left (at.Entry zero q)) c e = cc
+step_enters p (machine.Section of counts more left (at.Entry (suc n) q)) c e = entry_enters of counts more left n (entry_step p q c).0
+step_enters p (machine.Section of counts more left at.TypeForm) c e = cc
+step_enters p (machine.Section of counts more left (at.ParamCount r)) c e = cc
+step_enters p (machine.Section of counts more left (at.Param n)) c e = cc
+step_enters p (machine.Section of counts more left (at.ResultCount r)) c e = cc
+step_enters p (machine.Section of counts more left (at.ResultType n)) c e = cc
+step_enters p (machine.Section of counts more left (at.NameLength k r)) c e = cc
+step_enters p (machine.Section of counts more left (at.Name k n)) c e = cc
+step_enters p (machine.Section of counts more left (at.Value v)) c e = cc
+step_enters p (machine.Section of counts more left (at.Index x r)) c e = cc
+step_enters p (machine.Section of counts more left (at.GlobalType g)) c e = cc
+step_enters p (machine.Section of counts more left (at.Constant k x)) c e = cc
+step_enters p (machine.Section of counts more left (at.Length k r)) c e = cc
+step_enters p (machine.Section of counts more left (at.Data n)) c e = cc
+step_enters p (machine.Section of counts more left (at.EntrySize r)) c e = cc
+step_enters p (machine.Section of counts more left at.Over) c e = cc
+step_enters p (machine.Section of counts more left (at.Failed w)) c e = cc
 step_enters p (machine.Header n) c e = cc
-step_enters p (machine.Between last functions) c e = cc
-step_enters p (machine.CustomSize last functions r) c e = cc
-step_enters p (machine.Custom last functions more q) c e = cc
-step_enters p (machine.Size of functions r) c e = cc
-step_enters p (machine.Count of functions more r) c e = cc
+step_enters p (machine.Between last counts) c e = cc
+step_enters p (machine.CustomSize last counts r) c e = cc
+step_enters p (machine.Custom last counts more q) c e = cc
+step_enters p (machine.Size of counts r) c e = cc
+step_enters p (machine.Count of counts more r) c e = cc
 step_enters p (machine.Refused w) c e = cc
 
 heard_enters : (zone : Zone) (name : List ℕ) (c : ℕ) (m : Machine) (e : Event) → (zone ≡ in_entry → Enters m)
@@ -214,11 +215,11 @@ module _ (p : Profile) where
   entry_comes left (entry.Failed w) h i = absurd i
 
   -- what may come of a machine in an entry before its runs are complete
-  machine_comes : (of : SectionKind) (functions more left rest : ℕ) (q : InEntry) (y : List ℕ) → StandsEntry p (suc rest) q → IsBefore q → RunComes (MachineRest loose p (entry_machine of functions more left rest q) y)
-  machine_comes of functions more left rest q y h i =
+  machine_comes : (of : SectionKind) (counts : Counts) (more left rest : ℕ) (q : InEntry) (y : List ℕ) → StandsEntry p (suc rest) q → IsBefore q → RunComes (MachineRest loose p (entry_machine of counts more left rest q) y)
+  machine_comes of counts more left rest q y h i =
       let t = entry_comes (suc rest) q h i in
       let others = some_times left (OneOf loose p of) (some_one p of) in
-      let later = some_later p (id_of of) functions in
+      let later = some_later p (id_of of) counts in
       let inner : RunComes (ComponentRest loose p (at.Entry rest q) y) = record {
         bytes = t.bytes;
         marks = entry_marks t.marks;
@@ -238,42 +239,42 @@ module _ (p : Profile) where
         rest = within.rest;
         first = within.first;
       } in
-      run_then (Sized loose (suc more) (Within loose p of left (at.Entry rest q) y)) (Later loose p (id_of of) functions) sized later
+      run_then (Sized loose (suc more) (Within loose p of left (at.Entry rest q) y)) (Later loose p (id_of of) counts) sized later
 
   -- the machine before a byte of an op of a code entry
   record AtOp (m : Machine) : Type 0 where
     of : SectionKind
-    functions : ℕ
+    counts : Counts
     more : ℕ
     left : ℕ
     rest : ℕ
     place : Place
-    is : m ≡ entry_machine of functions more left rest (entry.Body place)
+    is : m ≡ entry_machine of counts more left rest (entry.Body place)
 
   module _ (b : List ℕ) (bytes : AreBytes b) (live : IsRefused (state_after p state_at_start b).machine → ⊥) (i : InExpression p b) where
     same_marks : i.marks ≡ marks p state_at_start b
     same_marks = one_front p b i.marks (marks p state_at_start b) i.front (is_front p b bytes live)
 
-    not_before : (of : SectionKind) (functions more left rest : ℕ) (q : InEntry) → (state_after p state_at_start b).machine ≡ entry_machine of functions more left rest q → StandsEntry p (suc rest) q → IsBefore q → ⊥
-    not_before of functions more left rest q e h before =
-        let t = machine_comes of functions more left rest q (state_after p state_at_start b).name h before in
+    not_before : (of : SectionKind) (counts : Counts) (more left rest : ℕ) (q : InEntry) → (state_after p state_at_start b).machine ≡ entry_machine of counts more left rest q → StandsEntry p (suc rest) q → IsBefore q → ⊥
+    not_before of counts more left rest q e h before =
+        let t = machine_comes of counts more left rest q (state_after p state_at_start b).name h before in
         let spelled : MachineRest loose p (state_after p state_at_start b).machine (state_after p state_at_start b).name t.bytes t.marks = subst (λ m. MachineRest loose p m (state_after p state_at_start b).name t.bytes t.marks) (sym e) t.spelled in
         let whole : ModuleForm loose p (b ++ t.bytes) (marks p state_at_start b ++ t.marks) = begin_from loose p (b ++ t.bytes) (marks p state_at_start b ++ t.marks) (run_from loose p state_at_start b t.bytes t.marks bytes begin_fits spelled) in
         i.no_run t.bytes t.marks t.count t.type t.rest (subst (λ k. ModuleForm loose p (b ++ t.bytes) (k ++ t.marks)) (sym same_marks) whole) t.first
 
-    by_place : (of : SectionKind) (functions more left rest : ℕ) (q : InEntry) → (state_after p state_at_start b).machine ≡ entry_machine of functions more left rest q → StandsEntry p (suc rest) q → AtOp (state_after p state_at_start b).machine
-    by_place of functions more left rest (entry.Body e) is h = record { of = of; functions = functions; more = more; left = left; rest = rest; place = e; is = is }
-    by_place of functions more left rest entry.Over is h = absurd h
-    by_place of functions more left rest (entry.Failed w) is h = absurd h
-    by_place of functions more left rest (entry.RunCount r) is h = absurd (not_before of functions more left rest (entry.RunCount r) is h tt)
-    by_place of functions more left rest (entry.Run n r) is h = absurd (not_before of functions more left rest (entry.Run n r) is h tt)
+    by_place : (of : SectionKind) (counts : Counts) (more left rest : ℕ) (q : InEntry) → (state_after p state_at_start b).machine ≡ entry_machine of counts more left rest q → StandsEntry p (suc rest) q → AtOp (state_after p state_at_start b).machine
+    by_place of counts more left rest (entry.Body e) is h = record { of = of; counts = counts; more = more; left = left; rest = rest; place = e; is = is }
+    by_place of counts more left rest entry.Over is h = absurd h
+    by_place of counts more left rest (entry.Failed w) is h = absurd h
+    by_place of counts more left rest (entry.RunCount r) is h = absurd (not_before of counts more left rest (entry.RunCount r) is h tt)
+    by_place of counts more left rest (entry.Run n r) is h = absurd (not_before of counts more left rest (entry.Run n r) is h tt)
 
     at_op : AtOp (state_after p state_at_start b).machine
     at_op = elim (run_enters p b state_at_start 0 (λ l. absurd (omega (arith, l))) (subst (λ k. 0 < entry_after 0 k) same_marks i.at_hand)) [
       | inl r ↦ absurd (live r)
       | inr e ↦
-          let fits : Fits p (entry_machine e.of e.functions e.more e.left e.rest e.place) = subst (Fits p) e.is (run_fits p state_at_start b bytes begin_fits) in
-          by_place e.of e.functions e.more e.left e.rest e.place e.is fits.2.1.1
+          let fits : Fits p (entry_machine e.of e.counts e.more e.left e.rest e.place) = subst (Fits p) e.is (run_fits p state_at_start b bytes begin_fits) in
+          by_place e.of e.counts e.more e.left e.rest e.place e.is fits.2.1.1
     ]
 
 -- at such a byte memory may run out at an op of the body alone
@@ -303,14 +304,14 @@ entry_never (suc n) (entry.RunCount r) h e = cc
 entry_never (suc n) (entry.Run more r) h e = cc
 entry_never (suc n) (entry.Body x) h e = cc
 
-framed_never : (of : SectionKind) (functions more left : ℕ) (q : InMember) → Never q → machine_in_member of functions more left q ≡ machine.Refused why.Memory → ⊥
-framed_never of functions more left (at.Failed w) h e = h (let s : w ≡ why.Memory = cc in ap at.Failed s)
-framed_never of functions zero zero at.Over h e = cc
-framed_never of functions (suc n) zero at.Over h e = cc
-framed_never of functions zero (suc l) at.Over h e = cc
-framed_never of functions (suc n) (suc l) at.Over h e = cc
-framed_never of functions zero left q h e = cc
-framed_never of functions (suc n) left q h e = cc
+framed_never : (of : SectionKind) (counts : Counts) (more left : ℕ) (q : InMember) → Never q → machine_in_member of counts more left q ≡ machine.Refused why.Memory → ⊥
+framed_never of counts more left (at.Failed w) h e = h (let s : w ≡ why.Memory = cc in ap at.Failed s)
+framed_never of counts zero zero at.Over h e = cc
+framed_never of counts (suc n) zero at.Over h e = cc
+framed_never of counts zero (suc l) at.Over h e = cc
+framed_never of counts (suc n) (suc l) at.Over h e = cc
+framed_never of counts zero left q h e = cc
+framed_never of counts (suc n) left q h e = cc
 
 event_op : {H : Type 0} (may : H → Item → Type 0) (o : Option Op) (name : List ℕ) (c : ℕ) (h : H) → MayRunOutAtEvent may (op_event plain.BodyOp o) name c h → (x : Op) × may h (body_op x)
 event_op may None name c h m = absurd m
@@ -320,10 +321,10 @@ pub runs_out_at_op : {H : Type 0} (may : H → Item → Type 0) (p : Profile) (b
     → (l : Live H) (c : ℕ) → l.machine ≡ (state_after p state_at_start b).machine → MayRunOutAtByte may p l c → (x : Op) × may l.held (body_op x)
 runs_out_at_op {H} may p b bytes live i l c same m =
     let a = at_op p b bytes live i in
-    let is : l.machine ≡ entry_machine a.of a.functions a.more a.left a.rest (entry.Body a.place) = same ∙ a.is in
-    let n : MayRunOutAtByte may p (record l { machine = entry_machine a.of a.functions a.more a.left a.rest (entry.Body a.place) }) c = subst (λ x. MayRunOutAtByte may p (record l { machine = x }) c) is m in
+    let is : l.machine ≡ entry_machine a.of a.counts a.more a.left a.rest (entry.Body a.place) = same ∙ a.is in
+    let n : MayRunOutAtByte may p (record l { machine = entry_machine a.of a.counts a.more a.left a.rest (entry.Body a.place) }) c = subst (λ x. MayRunOutAtByte may p (record l { machine = x }) c) is m in
     elim n [
       | inl g ↦ event_op may (expression_step p a.place c).1 l.name c l.held g
-      | inr r ↦ absurd (framed_never a.of a.functions a.more a.left (member_in_entry a.rest (entry_after_op (expression_step p a.place c).0))
+      | inr r ↦ absurd (framed_never a.of a.counts a.more a.left (member_in_entry a.rest (entry_after_op (expression_step p a.place c).0))
           (entry_never a.rest (entry_after_op (expression_step p a.place c).0) (op_never (expression_step p a.place c).0 (expression_memory p a.place c))) r)
     ]

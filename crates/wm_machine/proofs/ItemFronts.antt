@@ -16,6 +16,7 @@ use Rattle.wm_syntax.specs.declared.instructions.Op.{Op}
 use Rattle.wm_syntax.specs.declared.instructions.Op.TheVariants as op
 use Rattle.wm_machine.specs.declared.machine.NameKind.{NameKind}
 use Rattle.wm_machine.specs.declared.machine.NameKind.TheVariants as name
+use Rattle.wm_machine.specs.declared.machine.Counts.{Counts}
 use Rattle.wm_machine.specs.declared.machine.InCustom.{InCustom}
 use Rattle.wm_machine.specs.declared.machine.InCustom.TheVariants as custom
 use Rattle.wm_machine.specs.declared.machine.Machine.{Machine}
@@ -48,7 +49,7 @@ use Rattle.wm_machine.specs.exact.ValueSteps.{value_type_of, global_type_push, r
 use Rattle.wm_machine.specs.exact.OpSteps.{on_answer, op_push}
 use Rattle.wm_machine.specs.exact.ExpressionSteps.{start, ends, after_op, after_label, after_reading, expression_step}
 use Rattle.wm_machine.specs.exact.MemberSteps.{on_number, on_value, on_type, with_item_given, after_param, after_result, after_name, after_length, name_step, functions_or_over, index_item, after_index, constant_over, after_constant, op_event, data_or_over, list_or_over, runs_or_body, entry_after_op, entry_step, member_in_entry, member_step}
-use Rattle.wm_machine.specs.exact.Steps.{custom_after_length, custom_step, machine_in_member, after_count, begun_section, machine_if_rising, section_start, after_size, custom_size, header_step, step_of}
+use Rattle.wm_machine.specs.exact.Steps.{begun_last, custom_after_length, custom_step, machine_in_member, after_count, begun_section, machine_if_rising, section_start, after_size, custom_size, header_step, step_of}
 use Rattle.wm_machine.specs.exact.Runs.{name_item, byte_read, ByteRead, zone_in, zone_of, read_byte, state_after, marks, state_at_start}
 use Rattle.wm_machine.proofs.FirstBytes.{Next}
 use Rattle.wm_machine.proofs.Numbers.{Left}
@@ -382,18 +383,21 @@ custom_silent (custom.Name (suc n)) c = tt
 custom_silent custom.Skip c = tt
 custom_silent (custom.Failed w) c = tt
 
-begun_silent : (of : SectionKind) (functions : ℕ) → IsSilent (begun_section of functions).1
-begun_silent section_kind.Segment zero = tt
-begun_silent section_kind.Segment (suc n) = tt
-begun_silent of functions = tt
+begun_silent : (of : SectionKind) (counts : Counts) → IsSilent (begun_section of counts).1
+begun_silent section_kind.Segment counts = at_last counts.functions
+  where
+    at_last : (n : ℕ) → IsSilent (begun_last n counts).1
+    at_last zero = tt
+    at_last (suc n) = tt
+begun_silent of counts = tt
 
-rising_silent : (last functions id : ℕ) (q : Option SectionKind) → IsSilent (machine_if_rising last functions id q).1
-rising_silent last functions id None = tt
-rising_silent last functions id (Some of) = cond_both (nat_le id last) _ _ (λ (q : Machine × Event). IsSilent q.1) (λ _. tt) (λ _. begun_silent of functions)
+rising_silent : (last : ℕ) (counts : Counts) (id : ℕ) (q : Option SectionKind) → IsSilent (machine_if_rising last counts id q).1
+rising_silent last counts id None = tt
+rising_silent last counts id (Some of) = cond_both (nat_le id last) _ _ (λ (q : Machine × Event). IsSilent q.1) (λ _. tt) (λ _. begun_silent of counts)
 
-start_silent : (last functions c : ℕ) → IsSilent (section_start last functions c).1
-start_silent last functions zero = tt
-start_silent last functions (suc m) = rising_silent last functions (suc m) (section_kind_of (suc m))
+start_silent : (last : ℕ) (counts : Counts) (c : ℕ) → IsSilent (section_start last counts c).1
+start_silent last counts zero = tt
+start_silent last counts (suc m) = rising_silent last counts (suc m) (section_kind_of (suc m))
 
 header_silent : (n c : ℕ) → IsSilent (header_step n c).1
 header_silent n c =
@@ -404,11 +408,11 @@ header_silent n c =
     (λ _. cond_both (nat_lt n 4) _ _ P (λ _. tt) (λ _. tt)))
     (λ _. tt)
 
-count_silent : (of : SectionKind) (functions more : ℕ) (q : Step ℕ × Partial) → IsSilent (after_count of functions more q).1
-count_silent of functions zero (step.More, s) = tt
-count_silent of functions (suc n) (step.More, s) = tt
-count_silent of functions more (step.Done n, s) = tt
-count_silent of functions more (step.Bad, s) = tt
+count_silent : (of : SectionKind) (counts : Counts) (more : ℕ) (q : Step ℕ × Partial) → IsSilent (after_count of counts more q).1
+count_silent of counts zero (step.More, s) = tt
+count_silent of counts (suc n) (step.More, s) = tt
+count_silent of counts more (step.Done n, s) = tt
+count_silent of counts more (step.Bad, s) = tt
 
 silent_none : (zone : Zone) (y : List ℕ) (c : ℕ) (m : Machine) (e : Event) (x : Item) → IsSilent e → (byte_read machine.Refused zone y c (m, e)).mark.item ≡ Some x → ⊥
 silent_none zone y c m event.Nothing x s i = no_item x i
@@ -426,21 +430,21 @@ module _ (p : Profile) (c : ℕ) (byte : c < 2 ^ 8) (x : Item) where
 
   machine_ends : (m : Machine) (y : List ℕ) → Fits p m → EndsIn m y
   machine_ends (machine.Header n) y f = mute (machine.Header n) y (header_silent n c)
-  machine_ends (machine.Between last functions) y f = mute (machine.Between last functions) y (start_silent last functions c)
-  machine_ends (machine.CustomSize last functions r) y f =
-      mute (machine.CustomSize last functions r) y (step_silent (unsigned_push 32 r c) (λ s. machine.CustomSize last functions s) (λ n. (custom_size last functions n, event.Nothing)) machine.Refused (λ n. tt))
-  machine_ends (machine.Custom last functions more q) y f = mute (machine.Custom last functions more q) y (custom_silent q c)
-  machine_ends (machine.Size of functions r) y f =
-      mute (machine.Size of functions r) y (step_silent (unsigned_push 32 r c) (λ s. machine.Size of functions s) (λ n. (after_size of functions n, event.Nothing)) machine.Refused (λ n. tt))
-  machine_ends (machine.Count of functions more r) y f = mute (machine.Count of functions more r) y (count_silent of functions more (unsigned_push 32 r c))
+  machine_ends (machine.Between last counts) y f = mute (machine.Between last counts) y (start_silent last counts c)
+  machine_ends (machine.CustomSize last counts r) y f =
+      mute (machine.CustomSize last counts r) y (step_silent (unsigned_push 32 r c) (λ s. machine.CustomSize last counts s) (λ n. (custom_size last counts n, event.Nothing)) machine.Refused (λ n. tt))
+  machine_ends (machine.Custom last counts more q) y f = mute (machine.Custom last counts more q) y (custom_silent q c)
+  machine_ends (machine.Size of counts r) y f =
+      mute (machine.Size of counts r) y (step_silent (unsigned_push 32 r c) (λ s. machine.Size of counts s) (λ n. (after_size of counts n, event.Nothing)) machine.Refused (λ n. tt))
+  machine_ends (machine.Count of counts more r) y f = mute (machine.Count of counts more r) y (count_silent of counts more (unsigned_push 32 r c))
   machine_ends (machine.Refused w) y f = mute (machine.Refused w) y tt
-  machine_ends (machine.Section of functions more left q) y f = λ i.
+  machine_ends (machine.Section of counts more left q) y f = λ i.
       let z = member_step p q c in
-      let same = same_item p c byte x (zone_in q) y (machine_in_member of functions more left z.0) z.0 z.1 in
+      let same = same_item p c byte x (zone_in q) y (machine_in_member of counts more left z.0) z.0 z.1 in
       let T : MarkedForm = Times left (OneOf loose p of) in
       let W : MarkedForm = Within loose p of left q y in
       let here : Ends W c x = ends_then c x (ComponentRest loose p q y) T (member_ends p c byte x more q y f.2 (sym same ∙ i)) (some_times left (OneOf loose p of) (some_one p of)) in
-      ends_then c x (Sized loose (suc more) W) (Later loose p (id_of of) functions) (ends_sized c x (suc more) W here) (some_later p (id_of of) functions)
+      ends_then c x (Sized loose (suc more) W) (Later loose p (id_of of) counts) (ends_sized c x (suc more) W here) (some_later p (id_of of) counts)
 
 -- the bytes with that byte are a front
 pub item_front : (p : Profile) (b : List ℕ) (c : ℕ) (x : Item) → AreBytes b → c < 2 ^ 8 → (read_byte p (state_after p state_at_start b) c).mark.item ≡ Some x

@@ -18,7 +18,7 @@ use Rattle.wm_machine.specs.Grammar.{Items, strict}
 use Rattle.wm_machine.specs.Sinks.{and_then, all_taken}
 use Rattle.wm_machine.specs.exact.Steps.{step_of}
 use Rattle.wm_machine.specs.exact.Runs.{name_item, zone_of, byte_read, ByteRead, MachineState, read_byte, after_byte, state_after, marks, state_at_start, plain_item}
-use Rattle.wm_machine.specs.exact.Live.{effect_of_maybe, event_effect, Live, live_or_refused, live_from, live_byte, decoder_after, live_at_start, IsRefused, answer_at_end_of, answer_at_end}
+use Rattle.wm_machine.specs.exact.Live.{answer_between, effect_of_maybe, event_effect, Live, live_or_refused, live_from, live_byte, decoder_after, live_at_start, IsRefused, answer_at_end_of, answer_at_end}
 use Rattle.wm_machine.specs.Decoding.{Setting, Takes}
 use Rattle.wm_machine.proofs.MachineStates.{run_fits}
 use Rattle.wm_machine.proofs.WholeMachine.{MayEnd, MachineRest, StateRest, begin_to, begin_from, run_to, run_from, ends, may_end}
@@ -147,7 +147,7 @@ module _ {H : Type 0} (after : H → Item → Result H Why) (p : Profile) (limit
   refused_step (machine.Refused w) name c r = tt
   refused_step m name c r = absurd r
 
-  refused_run : (b : List ℕ) (s : MachineState) → IsRefused s.machine → IsRefused (state_after p s b).machine
+  pub refused_run : (b : List ℕ) (s : MachineState) → IsRefused s.machine → IsRefused (state_after p s b).machine
   refused_run [] s r = r
   refused_run (c ∷ b) s r = refused_run b (after_byte p s c) (refused_step s.machine s.name c r)
 
@@ -175,18 +175,20 @@ module _ {H : Type 0} (after : H → Item → Result H Why) (p : Profile) (limit
 
   -- a whole input
   ended_between : (m : Machine) (h g : H) (at : ℕ) → answer_at_end_of m h at ≡ Ok g → MayEnd m × (h ≡ g)
-  ended_between (machine.Between last zero) h g at e = (tt, cc)
-  ended_between (machine.Between last (suc n)) h g at e = cc
+  ended_between (machine.Between last counts) h g at e = between counts.functions e
+    where
+      between : (n : ℕ) → answer_between n h at ≡ Ok g → (n ≡ 0) × (h ≡ g)
+      between zero e = (refl, cc)
+      between (suc n) e = cc
   ended_between (machine.Refused w) h g at e = cc
   ended_between m h g at e = cc
 
   between_ended : (m : Machine) (h : H) (at : ℕ) → MayEnd m → answer_at_end_of m h at ≡ Ok h
-  between_ended (machine.Between last zero) h at i = refl
-  between_ended (machine.Between last (suc n)) h at i = absurd i
+  between_ended (machine.Between last counts) h at i = ap (λ n. answer_between n h at) i
   between_ended m h at i = absurd i
 
   between_live : (m : Machine) → MayEnd m → IsRefused m → ⊥
-  between_live (machine.Between last functions) i r = r
+  between_live (machine.Between last counts) i r = r
   between_live m i r = absurd i
 
   within_of : (b : List ℕ) → ((b ≡ [] → ⊥) → 0 + length b ≤ limit) → length b ≤ limit

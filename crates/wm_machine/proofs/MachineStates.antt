@@ -10,6 +10,7 @@ use Rattle.wm_syntax.specs.inner.Numbers.{Partial}
 use Rattle.wm_syntax.specs.Reading.{IfDone}
 use Rattle.wm_syntax.specs.exact.Reading.{fresh, unsigned_push}
 use Rattle.wm_syntax.proofs.Readers.{unsigned_range}
+use Rattle.wm_machine.specs.declared.machine.Counts.{Counts}
 use Rattle.wm_machine.specs.declared.machine.InCustom.{InCustom}
 use Rattle.wm_machine.specs.declared.machine.InCustom.TheVariants as custom
 use Rattle.wm_machine.specs.declared.machine.Machine.{Machine}
@@ -23,7 +24,7 @@ use Rattle.wm_machine.specs.declared.machine.member.InMember.TheVariants as at
 use Rattle.wm_machine.specs.Items.{Zone}
 use Rattle.wm_machine.specs.exact.Members.{id_of, section_kind_of, member_at_start as begin_component}
 use Rattle.wm_machine.specs.exact.MemberSteps.{on_number, member_step}
-use Rattle.wm_machine.specs.exact.Steps.{custom_after_length, machine_in_custom, custom_step, machine_in_member, machine_after_count, machine_after_paired_count, after_count, begun_section, machine_if_rising, section_start, after_size, custom_size, header_step, step_of}
+use Rattle.wm_machine.specs.exact.Steps.{counts_in, begun_last, custom_after_length, machine_in_custom, custom_step, machine_in_member, machine_after_count, machine_after_paired_count, after_count, begun_section, machine_if_rising, section_start, after_size, custom_size, header_step, step_of}
 use Rattle.wm_machine.specs.exact.Runs.{byte_read, ByteRead, MachineState, zone_of, after_byte, state_after}
 use Rattle.wm_machine.proofs.MemberSound.{CanGo, MayGo, can_begin, can_go_on}
 use Rattle.wm_machine.proofs.OpSound.{HasRoom, RoomAfter, fresh_32, unsigned_room}
@@ -48,12 +49,12 @@ component_named (suc (suc (suc (suc (suc (suc (suc (suc (suc (suc zero))))))))))
 component_named (suc (suc (suc (suc (suc (suc (suc (suc (suc (suc (suc m))))))))))) = omega arith
 
 -- functions await their code only between the section of functions and that of code
-abbrev pub FitsAt : (last functions : ℕ) → Type 0
-FitsAt last functions = (last < 3 → functions ≡ 0) × (10 ≤ last → functions ≡ 0)
+abbrev pub FitsAt : (last : ℕ) (counts : Counts) → Type 0
+FitsAt last counts = (last < 3 → counts.functions ≡ 0) × (10 ≤ last → counts.functions ≡ 0)
 
 -- the same where the section of this id has begun
-abbrev pub FitsIn : (id functions : ℕ) → Type 0
-FitsIn id functions = (id ≤ 3 → functions ≡ 0) × (10 < id → functions ≡ 0)
+abbrev pub FitsIn : (id : ℕ) (counts : Counts) → Type 0
+FitsIn id counts = (id ≤ 3 → counts.functions ≡ 0) × (10 < id → counts.functions ≡ 0)
 
 -- in a custom section
 abbrev pub FitsCustom : InCustom → Type 0
@@ -81,12 +82,12 @@ custom_fine (custom.Failed w) c byte f = absurd f
 
 abbrev pub Fits : Profile → Machine → Type 0
 Fits p (machine.Header n) = n < 8
-Fits p (machine.Between last functions) = FitsAt last functions
-Fits p (machine.CustomSize last functions r) = HasRoom 32 r × FitsAt last functions
-Fits p (machine.Custom last functions more q) = FitsAt last functions × FitsCustom q
-Fits p (machine.Size of functions r) = HasRoom 32 r × FitsIn (id_of of) functions
-Fits p (machine.Count of functions more r) = HasRoom 32 r × FitsIn (id_of of) functions × (suc more < 2 ^ 32)
-Fits p (machine.Section of functions more left q) = FitsAt (id_of of) functions × (suc more < 2 ^ 32) × CanGo p (suc more) q
+Fits p (machine.Between last counts) = FitsAt last counts
+Fits p (machine.CustomSize last counts r) = HasRoom 32 r × FitsAt last counts
+Fits p (machine.Custom last counts more q) = FitsAt last counts × FitsCustom q
+Fits p (machine.Size of counts r) = HasRoom 32 r × FitsIn (id_of of) counts
+Fits p (machine.Count of counts more r) = HasRoom 32 r × FitsIn (id_of of) counts × (suc more < 2 ^ 32)
+Fits p (machine.Section of counts more left q) = FitsAt (id_of of) counts × (suc more < 2 ^ 32) × CanGo p (suc more) q
 Fits p (machine.Refused w) = Unit {0}
 
 -- a member begins
@@ -104,72 +105,75 @@ may_begin p more few section_kind.Code = can_begin p more few section_kind.Code
 may_begin p more few section_kind.Segment = can_begin p more few section_kind.Segment
 
 -- in a section
-framed_fits : (p : Profile) (of : SectionKind) (functions more left : ℕ) (q : InMember) → FitsAt (id_of of) functions → more < 2 ^ 32 → MayGo p more q → Fits p (machine_in_member of functions more left q)
-framed_fits p of functions more left (at.Failed w) f few go = tt
-framed_fits p of functions zero zero at.Over f few go = f
-framed_fits p of functions (suc n) zero at.Over f few go = tt
-framed_fits p of functions zero (suc l) at.Over f few go = tt
-framed_fits p of functions (suc n) (suc l) at.Over f few go = (f, few, can_begin p (suc n) few of)
-framed_fits p of functions zero left q f few go = tt
-framed_fits p of functions (suc n) left q f few go = (f, few, go)
+framed_fits : (p : Profile) (of : SectionKind) (counts : Counts) (more left : ℕ) (q : InMember) → FitsAt (id_of of) counts → more < 2 ^ 32 → MayGo p more q → Fits p (machine_in_member of counts more left q)
+framed_fits p of counts more left (at.Failed w) f few go = tt
+framed_fits p of counts zero zero at.Over f few go = f
+framed_fits p of counts (suc n) zero at.Over f few go = tt
+framed_fits p of counts zero (suc l) at.Over f few go = tt
+framed_fits p of counts (suc n) (suc l) at.Over f few go = (f, few, can_begin p (suc n) few of)
+framed_fits p of counts zero left q f few go = tt
+framed_fits p of counts (suc n) left q f few go = (f, few, go)
 
-listed_fits : (p : Profile) (of : SectionKind) (functions more n : ℕ) → FitsAt (id_of of) functions → more < 2 ^ 32 → Fits p (machine_after_count of functions more n)
-listed_fits p of functions more zero f few = framed_fits p of functions more zero at.Over f few tt
-listed_fits p of functions more (suc n) f few = framed_fits p of functions more n (begin_component of) f few (may_begin p more few of)
+listed_fits : (p : Profile) (of : SectionKind) (counts : Counts) (more n : ℕ) → FitsAt (id_of of) counts → more < 2 ^ 32 → Fits p (machine_after_count of counts more n)
+listed_fits p of counts more zero f few = framed_fits p of counts more zero at.Over f few tt
+listed_fits p of counts more (suc n) f few = framed_fits p of counts more n (begin_component of) f few (may_begin p more few of)
 
 -- at the count of its members
-counted_fits : (p : Profile) (of : SectionKind) (functions more n : ℕ) → FitsIn (id_of of) functions → more < 2 ^ 32 → Fits p (machine_after_paired_count of functions more n)
-counted_fits p section_kind.Function functions more n f few = listed_fits p section_kind.Function n more n (λ l. absurd (omega (arith, l)), λ l. absurd (omega (arith, l))) few
-counted_fits p section_kind.Code functions more n f few =
-    cond_both (nat_eq n functions) _ _ (λ (m : Machine). Fits p m) (λ _. listed_fits p section_kind.Code 0 more n (λ l. refl, λ l. refl) few) (λ _. tt)
-counted_fits p of functions more n f few = listed_fits p of functions more n (λ l. f.0 (omega (arith, l)), λ l. f.1 (omega (arith, l))) few
+counted_fits : (p : Profile) (of : SectionKind) (counts : Counts) (more n : ℕ) → FitsIn (id_of of) counts → more < 2 ^ 32 → Fits p (machine_after_paired_count of counts more n)
+counted_fits p section_kind.Function counts more n f few = listed_fits p section_kind.Function (counts_in section_kind.Function counts n) more n (λ l. absurd (omega (arith, l)), λ l. absurd (omega (arith, l))) few
+counted_fits p section_kind.Code counts more n f few =
+    cond_both (nat_eq n counts.functions) _ _ (λ (m : Machine). Fits p m) (λ _. listed_fits p section_kind.Code (counts_in section_kind.Code counts n) more n (λ l. refl, λ l. refl) few) (λ _. tt)
+counted_fits p of counts more n f few = listed_fits p of (counts_in of counts n) more n (λ l. f.0 (omega (arith, l)), λ l. f.1 (omega (arith, l))) few
 
-count_fits : (p : Profile) (of : SectionKind) (functions more : ℕ) (q : Step ℕ × Partial) → FitsIn (id_of of) functions → suc more < 2 ^ 32 → RoomAfter 32 q → Fits p (after_count of functions more q).0
-count_fits p of functions zero (More, r) f few room = tt
-count_fits p of functions (suc n) (More, r) f few room = (room, f, omega (arith, few))
-count_fits p of functions more (Done n, r) f few room = counted_fits p of functions more n f (omega (arith, few))
-count_fits p of functions more (Bad, r) f few room = tt
+count_fits : (p : Profile) (of : SectionKind) (counts : Counts) (more : ℕ) (q : Step ℕ × Partial) → FitsIn (id_of of) counts → suc more < 2 ^ 32 → RoomAfter 32 q → Fits p (after_count of counts more q).0
+count_fits p of counts zero (More, r) f few room = tt
+count_fits p of counts (suc n) (More, r) f few room = (room, f, omega (arith, few))
+count_fits p of counts more (Done n, r) f few room = counted_fits p of counts more n f (omega (arith, few))
+count_fits p of counts more (Bad, r) f few room = tt
 
 -- at its size
-after_size_fits : (p : Profile) (of : SectionKind) (functions n : ℕ) → FitsIn (id_of of) functions → n < 2 ^ 32 → Fits p (after_size of functions n)
-after_size_fits p of functions zero f few = tt
-after_size_fits p section_kind.Start functions (suc n) f few = ((λ l. absurd (omega (arith, l)), λ l. absurd (omega (arith, l))), few, can_begin p (suc n) few section_kind.Start)
-after_size_fits p of functions (suc n) f few = (fresh_32, f, few)
+after_size_fits : (p : Profile) (of : SectionKind) (counts : Counts) (n : ℕ) → FitsIn (id_of of) counts → n < 2 ^ 32 → Fits p (after_size of counts n)
+after_size_fits p of counts zero f few = tt
+after_size_fits p section_kind.Start counts (suc n) f few = ((λ l. absurd (omega (arith, l)), λ l. absurd (omega (arith, l))), few, can_begin p (suc n) few section_kind.Start)
+after_size_fits p of counts (suc n) f few = (fresh_32, f, few)
 
-size_fits : (p : Profile) (of : SectionKind) (functions : ℕ) (q : Step ℕ × Partial) → FitsIn (id_of of) functions → RoomAfter 32 q → IfDone q.0 (λ n. n < 2 ^ 32)
-    → Fits p (on_number q (λ s. machine.Size of functions s) (λ n. (after_size of functions n, event.Nothing)) machine.Refused).0
-size_fits p of functions (More, r) f room few = (room, f)
-size_fits p of functions (Done n, r) f room few = after_size_fits p of functions n f few
-size_fits p of functions (Bad, r) f room few = tt
+size_fits : (p : Profile) (of : SectionKind) (counts : Counts) (q : Step ℕ × Partial) → FitsIn (id_of of) counts → RoomAfter 32 q → IfDone q.0 (λ n. n < 2 ^ 32)
+    → Fits p (on_number q (λ s. machine.Size of counts s) (λ n. (after_size of counts n, event.Nothing)) machine.Refused).0
+size_fits p of counts (More, r) f room few = (room, f)
+size_fits p of counts (Done n, r) f room few = after_size_fits p of counts n f few
+size_fits p of counts (Bad, r) f room few = tt
 
 -- in a custom section
-custom_fits : (p : Profile) (last functions more : ℕ) (q : InCustom) → FitsAt last functions → FineCustom q → Fits p (machine_in_custom last functions more q)
-custom_fits p last functions more (custom.Failed w) f fine = tt
-custom_fits p last functions zero custom.Skip f fine = f
-custom_fits p last functions zero q f fine = tt
-custom_fits p last functions (suc n) q f fine = (f, fine)
+custom_fits : (p : Profile) (last : ℕ) (counts : Counts) (more : ℕ) (q : InCustom) → FitsAt last counts → FineCustom q → Fits p (machine_in_custom last counts more q)
+custom_fits p last counts more (custom.Failed w) f fine = tt
+custom_fits p last counts zero custom.Skip f fine = f
+custom_fits p last counts zero q f fine = tt
+custom_fits p last counts (suc n) q f fine = (f, fine)
 
-custom_size_fits : (p : Profile) (last functions : ℕ) (q : Step ℕ × Partial) → FitsAt last functions → RoomAfter 32 q
-    → Fits p (on_number q (λ s. machine.CustomSize last functions s) (λ n. (custom_size last functions n, event.Nothing)) machine.Refused).0
-custom_size_fits p last functions (More, r) f room = (room, f)
-custom_size_fits p last functions (Done n, r) f room = custom_fits p last functions n (custom.Length fresh) f fresh_32
-custom_size_fits p last functions (Bad, r) f room = tt
+custom_size_fits : (p : Profile) (last : ℕ) (counts : Counts) (q : Step ℕ × Partial) → FitsAt last counts → RoomAfter 32 q
+    → Fits p (on_number q (λ s. machine.CustomSize last counts s) (λ n. (custom_size last counts n, event.Nothing)) machine.Refused).0
+custom_size_fits p last counts (More, r) f room = (room, f)
+custom_size_fits p last counts (Done n, r) f room = custom_fits p last counts n (custom.Length fresh) f fresh_32
+custom_size_fits p last counts (Bad, r) f room = tt
 
 -- between sections
-begun_fits : (p : Profile) (of : SectionKind) (last functions : ℕ) → last < id_of of → FitsAt last functions → Fits p (begun_section of functions).0
-begun_fits p section_kind.Segment last zero above f = (fresh_32, (λ l. refl, λ l. refl))
-begun_fits p section_kind.Segment last (suc n) above f = tt
-begun_fits p of last functions above f = (fresh_32, (λ l. f.0 (omega (arith, above, l)), λ l. absurd (omega (arith, l))))
+begun_fits : (p : Profile) (of : SectionKind) (last : ℕ) (counts : Counts) → last < id_of of → FitsAt last counts → Fits p (begun_section of counts).0
+begun_fits p section_kind.Segment last counts above f = at_last counts.functions refl
+  where
+    at_last : (n : ℕ) → counts.functions ≡ n → Fits p (begun_last n counts).0
+    at_last zero e = (fresh_32, (λ l. e, λ l. e))
+    at_last (suc n) e = tt
+begun_fits p of last counts above f = (fresh_32, (λ l. f.0 (omega (arith, above, l)), λ l. absurd (omega (arith, l))))
 
-rising_fits : (p : Profile) (last functions id : ℕ) (q : Option SectionKind) → IsNamed id q → FitsAt last functions → Fits p (machine_if_rising last functions id q).0
-rising_fits p last functions id None named f = tt
-rising_fits p last functions id (Some of) named f =
+rising_fits : (p : Profile) (last : ℕ) (counts : Counts) (id : ℕ) (q : Option SectionKind) → IsNamed id q → FitsAt last counts → Fits p (machine_if_rising last counts id q).0
+rising_fits p last counts id None named f = tt
+rising_fits p last counts id (Some of) named f =
     cond_both (nat_le id last) _ _ (λ (q : Machine × Event). Fits p q.0) (λ _. tt)
-    (λ a. let above : last < id = leb-false id last a in begun_fits p of last functions (omega (arith, above, named)) f)
+    (λ a. let above : last < id = leb-false id last a in begun_fits p of last counts (omega (arith, above, named)) f)
 
-start_fits : (p : Profile) (last functions c : ℕ) → FitsAt last functions → Fits p (section_start last functions c).0
-start_fits p last functions zero f = (fresh_32, f)
-start_fits p last functions (suc m) f = rising_fits p last functions (suc m) (section_kind_of (suc m)) (component_named m) f
+start_fits : (p : Profile) (last : ℕ) (counts : Counts) (c : ℕ) → FitsAt last counts → Fits p (section_start last counts c).0
+start_fits p last counts zero f = (fresh_32, f)
+start_fits p last counts (suc m) f = rising_fits p last counts (suc m) (section_kind_of (suc m)) (component_named m) f
 
 header_fits : (p : Profile) (n c : ℕ) → Fits p (header_step n c).0
 header_fits p n c =
@@ -182,13 +186,13 @@ header_fits p n c =
 
 pub step_fits : (p : Profile) (m : Machine) (c : ℕ) → c < 2 ^ 8 → Fits p m → Fits p (step_of p m c).0
 step_fits p (machine.Header n) c byte f = header_fits p n c
-step_fits p (machine.Between last functions) c byte f = start_fits p last functions c f
-step_fits p (machine.CustomSize last functions r) c byte f = custom_size_fits p last functions (unsigned_push 32 r c) f.1 (unsigned_room 32 r c f.0 byte)
-step_fits p (machine.Custom last functions more q) c byte f = custom_fits p last functions more (custom_step q c).0 f.0 (custom_fine q c byte f.1)
-step_fits p (machine.Size of functions r) c byte f = size_fits p of functions (unsigned_push 32 r c) f.1 (unsigned_room 32 r c f.0 byte) (unsigned_range 32 r c f.0.1)
-step_fits p (machine.Count of functions more r) c byte f = count_fits p of functions more (unsigned_push 32 r c) f.1 f.2 (unsigned_room 32 r c f.0 byte)
-step_fits p (machine.Section of functions more left q) c byte f =
-    framed_fits p of functions more left (member_step p q c).0 f.0 (let few = f.1 in omega (arith, few)) (can_go_on p more q c byte f.2)
+step_fits p (machine.Between last counts) c byte f = start_fits p last counts c f
+step_fits p (machine.CustomSize last counts r) c byte f = custom_size_fits p last counts (unsigned_push 32 r c) f.1 (unsigned_room 32 r c f.0 byte)
+step_fits p (machine.Custom last counts more q) c byte f = custom_fits p last counts more (custom_step q c).0 f.0 (custom_fine q c byte f.1)
+step_fits p (machine.Size of counts r) c byte f = size_fits p of counts (unsigned_push 32 r c) f.1 (unsigned_room 32 r c f.0 byte) (unsigned_range 32 r c f.0.1)
+step_fits p (machine.Count of counts more r) c byte f = count_fits p of counts more (unsigned_push 32 r c) f.1 f.2 (unsigned_room 32 r c f.0 byte)
+step_fits p (machine.Section of counts more left q) c byte f =
+    framed_fits p of counts more left (member_step p q c).0 f.0 (let few = f.1 in omega (arith, few)) (can_go_on p more q c byte f.2)
 step_fits p (machine.Refused w) c byte f = tt
 
 heard_fits : (p : Profile) (zone : Zone) (y : List ℕ) (c : ℕ) (m : Machine) (e : Event) → Fits p m → Fits p (byte_read machine.Refused zone y c (m, e)).at

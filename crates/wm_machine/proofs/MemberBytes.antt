@@ -28,11 +28,11 @@ use Rattle.wm_machine.specs.declared.machine.member.InMember.{InMember}
 use Rattle.wm_machine.specs.declared.machine.member.InMember.TheVariants as at
 use Rattle.wm_machine.specs.declared.step.expressions.InExpression.{InExpression}
 use Rattle.wm_machine.specs.declared.step.expressions.InExpression.TheVariants as expression
-use Rattle.wm_machine.specs.Items.{Item, new_type, param, result_count, one_result, function, table as table_part, memory as memory_part, global as global_part, const_op, start as start_part, element_function, body, body_op, data_byte, Zone, outside, entry as in_entry, closing, Mark}
+use Rattle.wm_machine.specs.Items.{Item, new_type, param, result_count, one_result, table as table_part, memory as memory_part, global as global_part, const_op, element_function, body, body_op, data_byte, Zone, outside, entry as in_entry, closing, Mark}
 use Rattle.wm_machine.specs.MarkedForms.{MarkedForm, Empty, MarkedByte, Then, Times, Leaf, MarkedNumber, Vector, Index, Counted, Name, Sized, Entry, nothing_at, marks_ending, in_zone, outside_mark}
-use Rattle.wm_machine.specs.Grammar.{ValueType, ResultTypes, FunctionType, Desc, ImportForm, Global, Target, ExportForm, ElementForm, Run, Code, DataByte, SegmentForm, Expression}
+use Rattle.wm_machine.specs.Grammar.{ValueType, ResultTypes, FunctionType, Desc, Global, Member, Target, Run, DataByte, Expression}
 use Rattle.wm_machine.specs.exact.Runs.{ByteRead, byte_read, name_item, plain_item, zone_in}
-use Rattle.wm_machine.specs.exact.Members.{member_at_start}
+use Rattle.wm_machine.specs.exact.Members.{id_of, member_at_start}
 use Rattle.wm_machine.specs.exact.ValueSteps.{global_type_push, value_push}
 use Rattle.wm_machine.specs.exact.ExpressionSteps.{start, expression_step}
 use Rattle.wm_machine.specs.exact.MemberSteps.{after_param, after_result, after_name, functions_or_over, index_item, after_index, constant_over, after_constant, op_event, constant_step, data_or_over, list_or_over, entry_step, member_in_entry, member_of_entry, with_item_given, member_step}
@@ -62,17 +62,7 @@ module _ (demanded : Type 0) where
 module _ (demanded : Type 0) (p : Profile) where
   -- one member of a section
   abbrev pub OneOf : SectionKind → MarkedForm
-  OneOf section_kind.Type = FunctionType p
-  OneOf section_kind.Import = ImportForm demanded p
-  OneOf section_kind.Function = Index function
-  OneOf section_kind.Table = Leaf SpellsTableType table_part
-  OneOf section_kind.Memory = Leaf SpellsLimits memory_part
-  OneOf section_kind.Global = Global p
-  OneOf section_kind.Export = ExportForm demanded
-  OneOf section_kind.Start = Index start_part
-  OneOf section_kind.Element = ElementForm p
-  OneOf section_kind.Code = Code demanded p
-  OneOf section_kind.Segment = SegmentForm p
+  OneOf of = Member demanded p (id_of of)
 
   abbrev Constant : MarkedForm
   Constant = Expression p const_op

@@ -27,6 +27,7 @@ use Rattle.wm_machine.specs.declared.step.values.InValue.TheVariants as value
 use Rattle.wm_machine.specs.declared.step.expressions.InExpression.{InExpression}
 use Rattle.wm_machine.specs.declared.step.expressions.InExpression.TheVariants as expression
 use Rattle.wm_machine.specs.declared.machine.Plain.TheVariants as plain
+use Rattle.wm_machine.specs.declared.machine.Counts.{Counts}
 use Rattle.wm_machine.specs.declared.machine.InCustom.{InCustom}
 use Rattle.wm_machine.specs.declared.machine.InCustom.TheVariants as custom
 use Rattle.wm_machine.specs.declared.machine.Machine.{Machine}
@@ -139,11 +140,11 @@ num_custom (custom.Length r) = Some (u32, r)
 num_custom q = None
 
 abbrev pub num_machine : Profile → Machine → Num
-num_machine p (machine.CustomSize last functions r) = Some (u32, r)
-num_machine p (machine.Custom last functions more q) = num_custom q
-num_machine p (machine.Size of functions r) = Some (u32, r)
-num_machine p (machine.Count of functions more r) = Some (u32, r)
-num_machine p (machine.Section of functions more left q) = num_member p q
+num_machine p (machine.CustomSize last counts r) = Some (u32, r)
+num_machine p (machine.Custom last counts more q) = num_custom q
+num_machine p (machine.Size of counts r) = Some (u32, r)
+num_machine p (machine.Count of counts more r) = Some (u32, r)
+num_machine p (machine.Section of counts more left q) = num_member p q
 num_machine p m = None
 
 abbrev pub RestOf : Integer → Partial → Form ℕ
@@ -274,29 +275,29 @@ module _ (p : Profile) where
   member_can (at.Failed v) y b w = absurd w
 
   -- the machine
-  named_then : (last functions n : ℕ) → Comes (Then (Filled loose n (Name loose unnamed)) (Later loose p last functions))
-  named_then last functions n = some_then (Filled loose n (Name loose unnamed)) (Later loose p last functions) (some_filled n (Name loose unnamed) (some_name unnamed)) (some_later p last functions)
+  named_then : (last : ℕ) (counts : Counts) (n : ℕ) → Comes (Then (Filled loose n (Name loose unnamed)) (Later loose p last counts))
+  named_then last counts n = some_then (Filled loose n (Name loose unnamed)) (Later loose p last counts) (some_filled n (Name loose unnamed) (some_name unnamed)) (some_later p last counts)
 
   pub number_can : (m : Machine) (y : List ℕ) → PartsCan (Rests (num_machine p m)) (MachineRest loose p m y)
-  number_can (machine.CustomSize last functions r) y b w = counted_can r nothing_at (λ n. Then (Filled loose n (Name loose unnamed)) (Later loose p last functions)) (named_then last functions) b w
-  number_can (machine.Custom last functions more (custom.Length r)) y b w =
+  number_can (machine.CustomSize last counts r) y b w = counted_can r nothing_at (λ n. Then (Filled loose n (Name loose unnamed)) (Later loose p last counts)) (named_then last counts) b w
+  number_can (machine.Custom last counts more (custom.Length r)) y b w =
       let T : MarkedForm = TextLeft loose r unnamed in
-      then_can (RestOf u32 r) (Filled loose (suc more) T) (Later loose p last functions) (filled_can (RestOf u32 r) (suc more) T (text_can r unnamed)) (some_later p last functions) b w
-  number_can (machine.Custom last functions more (custom.Name n)) y b w = absurd w
-  number_can (machine.Custom last functions more custom.Skip) y b w = absurd w
-  number_can (machine.Custom last functions more (custom.Failed v)) y b w = absurd w
-  number_can (machine.Size of functions r) y b w =
-      for_can (RestOf u32 r) (KnownIn (id_of of) functions) (λ f. Counted (Left r) nothing_at (InSectionSize loose p of f)) functions (λ l. refl) (counted_can r nothing_at (InSectionSize loose p of functions) (some_section_size p of functions)) b w
-  number_can (machine.Count of functions more r) y b w =
+      then_can (RestOf u32 r) (Filled loose (suc more) T) (Later loose p last counts) (filled_can (RestOf u32 r) (suc more) T (text_can r unnamed)) (some_later p last counts) b w
+  number_can (machine.Custom last counts more (custom.Name n)) y b w = absurd w
+  number_can (machine.Custom last counts more custom.Skip) y b w = absurd w
+  number_can (machine.Custom last counts more (custom.Failed v)) y b w = absurd w
+  number_can (machine.Size of counts r) y b w =
+      for_can (RestOf u32 r) (KnownIn (id_of of) counts) (λ f. Counted (Left r) nothing_at (InSectionSize loose p of f)) counts.functions (λ l. refl) (counted_can r nothing_at (InSectionSize loose p of counts.functions) (some_section_size p of counts.functions)) b w
+  number_can (machine.Count of counts more r) y b w =
       let W : Form ℕ = RestOf u32 r in
       let L : ℕ → MarkedForm = λ f. Sized loose (suc more) (ListedMembers loose p of r f) in
-      let v : PartsCan W (L functions) = sized_can W (suc more) (ListedMembers loose p of r functions) (counted_can r nothing_at (ListOf loose p of functions) (some_listed_members p of functions)) in
-      for_can W (KnownIn (id_of of) functions) (λ f. Then (L f) (After loose p of f)) functions (λ l. refl) (then_can W (L functions) (After loose p of functions) v (some_after p of functions)) b w
-  number_can (machine.Section of functions more left q) y b w =
+      let v : PartsCan W (L counts.functions) = sized_can W (suc more) (ListedMembers loose p of r counts.functions) (counted_can r nothing_at (ListOf loose p of counts.functions) (some_listed_members p of counts.functions)) in
+      for_can W (KnownIn (id_of of) counts) (λ f. Then (L f) (After loose p of f)) counts.functions (λ l. refl) (then_can W (L counts.functions) (After loose p of counts.functions) v (some_after p of counts.functions)) b w
+  number_can (machine.Section of counts more left q) y b w =
       let W : Form ℕ = Rests (num_member p q) in
       let M : MarkedForm = Times left (OneOf loose p of) in
       let v : PartsCan W (Within loose p of left q y) = then_can W (ComponentRest loose p q y) M (member_can q y) (some_times left (OneOf loose p of) (some_one p of)) in
-      then_can W (Sized loose (suc more) (Within loose p of left q y)) (Later loose p (id_of of) functions) (sized_can W (suc more) (Within loose p of left q y) v) (some_later p (id_of of) functions) b w
+      then_can W (Sized loose (suc more) (Within loose p of left q y)) (Later loose p (id_of of) counts) (sized_can W (suc more) (Within loose p of left q y) v) (some_later p (id_of of) counts) b w
   number_can (machine.Header n) y b w = absurd w
-  number_can (machine.Between last functions) y b w = absurd w
+  number_can (machine.Between last counts) y b w = absurd w
   number_can (machine.Refused v) y b w = absurd w

@@ -15,7 +15,7 @@ use Rattle.wm_machine.specs.Items.{Item, Zone, Marks}
 use Rattle.wm_machine.specs.Sinks.{and_then}
 use Rattle.wm_machine.specs.exact.Steps.{step_of}
 use Rattle.wm_machine.specs.exact.Runs.{byte_read, ByteRead, MachineState, zone_of, read_byte, state_after, marks, state_at_start}
-use Rattle.wm_machine.specs.exact.Live.{effect_of_maybe, Live, live_byte, decoder_after, live_at_start, answer_at_end_of, answer_at_end, IsRefused}
+use Rattle.wm_machine.specs.exact.Live.{answer_between, effect_of_maybe, Live, live_byte, decoder_after, live_at_start, answer_at_end_of, answer_at_end, IsRefused}
 use Rattle.wm_machine.specs.inner.Answers.{answer_of}
 use Rattle.wm_machine.specs.Meanings.{AtItem, IsRuleName, RefusesBy, Meant}
 use Rattle.wm_machine.proofs.ByteLists.{front_bytes}
@@ -129,8 +129,11 @@ module _ {H : Type 0} (after : H → Item → Result H Why) (s : Setting H) wher
 
       go : (m : Machine) → (IsRefused m → ⊥) → answer_at_end_of m h at ≡ Err r → ⊥
       go (machine.Refused w) live e = live tt
-      go (machine.Between last zero) live e = absurd (cc)
-      go (machine.Between last (suc n)) live e = named why.CodeCount (cc (e))
+      go (machine.Between last counts) live e = between counts.functions e
+        where
+          between : (n : ℕ) → answer_between n h at ≡ Err r → ⊥
+          between zero e = absurd (cc)
+          between (suc n) e = named why.CodeCount (cc (e))
       go m live e = named why.Truncated (cc (e))
 
   -- the answer to a whole input

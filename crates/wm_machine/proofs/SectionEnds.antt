@@ -13,6 +13,7 @@ use Rattle.wm_syntax.specs.Types.{SpellsU32}
 use Rattle.wm_syntax.specs.declared.profile.Profile.{Profile}
 use Rattle.wm_syntax.specs.declared.why.Why.{Why}
 use Rattle.wm_syntax.specs.declared.why.Why.TheVariants as why
+use Rattle.wm_machine.specs.declared.machine.Counts.{Counts}
 use Rattle.wm_machine.specs.declared.machine.InCustom.{InCustom}
 use Rattle.wm_machine.specs.declared.machine.InCustom.TheVariants as custom
 use Rattle.wm_machine.specs.declared.machine.Machine.{Machine}
@@ -31,7 +32,7 @@ use Rattle.wm_machine.specs.Grammar.{Items, ModuleForm, Chain, Section, loose, s
 use Rattle.wm_machine.specs.Meanings.{CanGoOn, CanEnd, OtherSize}
 use Rattle.wm_machine.specs.exact.Members.{id_of, section_kind_of, member_at_start}
 use Rattle.wm_machine.specs.exact.MemberSteps.{on_number, member_step}
-use Rattle.wm_machine.specs.exact.Steps.{custom_after_length, machine_in_custom, custom_step, machine_in_member, machine_after_count, machine_after_paired_count, after_count, begun_section, machine_if_rising, section_start, machine_in_contents, after_size, custom_size, header_step, step_of}
+use Rattle.wm_machine.specs.exact.Steps.{counts_in, begun_last, custom_after_length, machine_in_custom, custom_step, machine_in_member, machine_after_count, machine_after_paired_count, after_count, begun_section, machine_if_rising, section_start, machine_in_contents, after_size, custom_size, header_step, step_of}
 use Rattle.wm_machine.specs.exact.Runs.{byte_read, ByteRead, MachineState, zone_in, zone_of, state_after, marks, state_at_start}
 use Rattle.wm_machine.specs.exact.Live.{IsRefused}
 use Rattle.wm_machine.proofs.FirstBytes.{Next}
@@ -164,18 +165,18 @@ module _ (p : Profile) (f : ℕ) where
 abbrev Closes : MarkedForm → Type 0
 Closes Q = (rest : List ℕ) × IsEnd rest × (k : Marks) × Q rest k
 
-closing : (p : Profile) (of : SectionKind) (functions : ℕ) → Closes (Later loose p (id_of of) functions)
-closing p section_kind.Type functions = ([], inl refl, [], (0, (λ l. absurd (omega (arith, l))), over loose p 0 10 2 (λ i e. refl)))
-closing p section_kind.Import functions = ([], inl refl, [], (0, (λ l. absurd (omega (arith, l))), over loose p 0 9 3 (λ i e. refl)))
-closing p section_kind.Function functions = (code_bytes p functions, inr refl, code_marks p functions, (functions, (λ l. refl), from_4 p functions))
-closing p section_kind.Table functions = (code_bytes p functions, inr refl, code_marks p functions, (functions, (λ l. refl), from_5 p functions))
-closing p section_kind.Memory functions = (code_bytes p functions, inr refl, code_marks p functions, (functions, (λ l. refl), from_6 p functions))
-closing p section_kind.Global functions = (code_bytes p functions, inr refl, code_marks p functions, (functions, (λ l. refl), from_7 p functions))
-closing p section_kind.Export functions = (code_bytes p functions, inr refl, code_marks p functions, (functions, (λ l. refl), from_8 p functions))
-closing p section_kind.Start functions = (code_bytes p functions, inr refl, code_marks p functions, (functions, (λ l. refl), from_9 p functions))
-closing p section_kind.Element functions = (code_bytes p functions, inr refl, code_marks p functions, (functions, (λ l. refl), from_code p functions))
-closing p section_kind.Code functions = ([], inl refl, [], (functions, (λ l. refl), over_code p functions))
-closing p section_kind.Segment functions = ([], inl refl, [], (functions, (λ l. refl), (0, (refl, refl))))
+closing : (p : Profile) (of : SectionKind) (counts : Counts) → Closes (Later loose p (id_of of) counts)
+closing p section_kind.Type counts = ([], inl refl, [], (0, (λ l. absurd (omega (arith, l))), over loose p 0 10 2 (λ i e. refl)))
+closing p section_kind.Import counts = ([], inl refl, [], (0, (λ l. absurd (omega (arith, l))), over loose p 0 9 3 (λ i e. refl)))
+closing p section_kind.Function counts = (code_bytes p counts.functions, inr refl, code_marks p counts.functions, (counts.functions, (λ l. refl), from_4 p counts.functions))
+closing p section_kind.Table counts = (code_bytes p counts.functions, inr refl, code_marks p counts.functions, (counts.functions, (λ l. refl), from_5 p counts.functions))
+closing p section_kind.Memory counts = (code_bytes p counts.functions, inr refl, code_marks p counts.functions, (counts.functions, (λ l. refl), from_6 p counts.functions))
+closing p section_kind.Global counts = (code_bytes p counts.functions, inr refl, code_marks p counts.functions, (counts.functions, (λ l. refl), from_7 p counts.functions))
+closing p section_kind.Export counts = (code_bytes p counts.functions, inr refl, code_marks p counts.functions, (counts.functions, (λ l. refl), from_8 p counts.functions))
+closing p section_kind.Start counts = (code_bytes p counts.functions, inr refl, code_marks p counts.functions, (counts.functions, (λ l. refl), from_9 p counts.functions))
+closing p section_kind.Element counts = (code_bytes p counts.functions, inr refl, code_marks p counts.functions, (counts.functions, (λ l. refl), from_code p counts.functions))
+closing p section_kind.Code counts = ([], inl refl, [], (counts.functions, (λ l. refl), over_code p counts.functions))
+closing p section_kind.Segment counts = ([], inl refl, [], (counts.functions, (λ l. refl), (0, (refl, refl))))
 
 -- where no size is looked at
 header_not : (n c : ℕ) → (header_step n c).0 ≡ machine.Refused why.SectionEnd → ⊥
@@ -187,23 +188,26 @@ header_not n c =
     (λ _. cond_both (nat_lt n 4) _ _ P (λ _ e. cc) (λ _ e. cc)))
     (λ _ e. cc)
 
-begun_not : (of : SectionKind) (functions : ℕ) → (begun_section of functions).0 ≡ machine.Refused why.SectionEnd → ⊥
-begun_not section_kind.Segment zero e = cc
-begun_not section_kind.Segment (suc n) e = cc
-begun_not of functions e = cc
+begun_not : (of : SectionKind) (counts : Counts) → (begun_section of counts).0 ≡ machine.Refused why.SectionEnd → ⊥
+begun_not section_kind.Segment counts e = at_last counts.functions e
+  where
+    at_last : (n : ℕ) → (begun_last n counts).0 ≡ machine.Refused why.SectionEnd → ⊥
+    at_last zero e = cc
+    at_last (suc n) e = cc
+begun_not of counts e = cc
 
-rising_not : (last functions id : ℕ) (q : Option SectionKind) → (machine_if_rising last functions id q).0 ≡ machine.Refused why.SectionEnd → ⊥
-rising_not last functions id None e = cc
-rising_not last functions id (Some of) e =
-    (cond_both (nat_le id last) _ _ (λ (q : Machine × Event). q.0 ≡ machine.Refused why.SectionEnd → ⊥) (λ _ e. cc) (λ _. begun_not of functions)) e
+rising_not : (last : ℕ) (counts : Counts) (id : ℕ) (q : Option SectionKind) → (machine_if_rising last counts id q).0 ≡ machine.Refused why.SectionEnd → ⊥
+rising_not last counts id None e = cc
+rising_not last counts id (Some of) e =
+    (cond_both (nat_le id last) _ _ (λ (q : Machine × Event). q.0 ≡ machine.Refused why.SectionEnd → ⊥) (λ _ e. cc) (λ _. begun_not of counts)) e
 
-start_not : (last functions c : ℕ) → (section_start last functions c).0 ≡ machine.Refused why.SectionEnd → ⊥
-start_not last functions zero e = cc
-start_not last functions (suc m) e = rising_not last functions (suc m) (section_kind_of (suc m)) e
+start_not : (last : ℕ) (counts : Counts) (c : ℕ) → (section_start last counts c).0 ≡ machine.Refused why.SectionEnd → ⊥
+start_not last counts zero e = cc
+start_not last counts (suc m) e = rising_not last counts (suc m) (section_kind_of (suc m)) e
 
-contents_not : (of : SectionKind) (functions more : ℕ) → machine_in_contents of functions more ≡ machine.Refused why.SectionEnd → ⊥
-contents_not section_kind.Start functions more e = cc
-contents_not of functions more e = cc
+contents_not : (of : SectionKind) (counts : Counts) (more : ℕ) → machine_in_contents of counts more ≡ machine.Refused why.SectionEnd → ⊥
+contents_not section_kind.Start counts more e = cc
+contents_not of counts more e = cc
 
 custom_not : (q : InCustom) (c : ℕ) → FitsCustom q → (custom_step q c).0 ≡ custom.Failed why.SectionEnd → ⊥
 custom_not (custom.Length r) c f e = go (unsigned_push 32 r c) e
@@ -228,29 +232,29 @@ within p left (at.Failed w) h = h
 within p left q h = tt
 
 -- where the count of the members is the last of the section
-begun_end : (of : SectionKind) (functions m n : ℕ) → machine_in_member of functions (suc m) n (member_at_start of) ≡ machine.Refused why.SectionEnd → ⊥
-begun_end section_kind.Type functions m n e = cc
-begun_end section_kind.Import functions m n e = cc
-begun_end section_kind.Function functions m n e = cc
-begun_end section_kind.Table functions m n e = cc
-begun_end section_kind.Memory functions m n e = cc
-begun_end section_kind.Global functions m n e = cc
-begun_end section_kind.Export functions m n e = cc
-begun_end section_kind.Start functions m n e = cc
-begun_end section_kind.Element functions m n e = cc
-begun_end section_kind.Code functions m n e = cc
-begun_end section_kind.Segment functions m n e = cc
+begun_end : (of : SectionKind) (counts : Counts) (m n : ℕ) → machine_in_member of counts (suc m) n (member_at_start of) ≡ machine.Refused why.SectionEnd → ⊥
+begun_end section_kind.Type counts m n e = cc
+begun_end section_kind.Import counts m n e = cc
+begun_end section_kind.Function counts m n e = cc
+begun_end section_kind.Table counts m n e = cc
+begun_end section_kind.Memory counts m n e = cc
+begun_end section_kind.Global counts m n e = cc
+begun_end section_kind.Export counts m n e = cc
+begun_end section_kind.Start counts m n e = cc
+begun_end section_kind.Element counts m n e = cc
+begun_end section_kind.Code counts m n e = cc
+begun_end section_kind.Segment counts m n e = cc
 
-listed_end : (of : SectionKind) (functions more n : ℕ) → machine_after_count of functions more n ≡ machine.Refused why.SectionEnd → (more ≡ 0) ⊎ (n ≡ 0)
-listed_end of functions more zero e = inr refl
-listed_end of functions zero (suc n) e = inl refl
-listed_end of functions (suc m) (suc n) e = absurd (begun_end of functions m n e)
+listed_end : (of : SectionKind) (counts : Counts) (more n : ℕ) → machine_after_count of counts more n ≡ machine.Refused why.SectionEnd → (more ≡ 0) ⊎ (n ≡ 0)
+listed_end of counts more zero e = inr refl
+listed_end of counts zero (suc n) e = inl refl
+listed_end of counts (suc m) (suc n) e = absurd (begun_end of counts m n e)
 
-paired_end : (of : SectionKind) (functions more n : ℕ) → machine_after_paired_count of functions more n ≡ machine.Refused why.SectionEnd → (more ≡ 0) ⊎ (n ≡ 0)
-paired_end section_kind.Function functions more n e = listed_end section_kind.Function n more n e
-paired_end section_kind.Code functions more n e =
-    (cond_both (nat_eq n functions) _ _ (λ (m : Machine). m ≡ machine.Refused why.SectionEnd → (more ≡ 0) ⊎ (n ≡ 0)) (λ _. listed_end section_kind.Code 0 more n) (λ _ e. absurd (cc))) e
-paired_end of functions more n e = listed_end of functions more n e
+paired_end : (of : SectionKind) (counts : Counts) (more n : ℕ) → machine_after_paired_count of counts more n ≡ machine.Refused why.SectionEnd → (more ≡ 0) ⊎ (n ≡ 0)
+paired_end section_kind.Function counts more n e = listed_end section_kind.Function (counts_in section_kind.Function counts n) more n e
+paired_end section_kind.Code counts more n e =
+    (cond_both (nat_eq n counts.functions) _ _ (λ (m : Machine). m ≡ machine.Refused why.SectionEnd → (more ≡ 0) ⊎ (n ≡ 0)) (λ _. listed_end section_kind.Code (counts_in section_kind.Code counts n) more n) (λ _ e. absurd (cc))) e
+paired_end of counts more n e = listed_end of (counts_in of counts n) more n e
 
 none_listed : (p : Profile) (of : SectionKind) (f : ℕ) → ListOf loose p of f 0 [] []
 none_listed p section_kind.Function f = ((λ d. absurd d), (refl, refl))
@@ -263,22 +267,22 @@ module _ (p : Profile) (c : ℕ) (byte : c < 2 ^ 8) where
   Cut P used = ((last id : ℕ) × InContents last id 0 used × Goes c P) ⊎ ((last id n : ℕ) × InContents last id (suc n) used × Ends c P)
 
   -- in a section
-  module _ (of : SectionKind) (functions : ℕ) (q : InMember) (y : List ℕ) where
+  module _ (of : SectionKind) (counts : Counts) (q : InMember) (y : List ℕ) where
     abbrev Here : ℕ → ℕ → MarkedForm
-    Here more left = MachineRest loose p (machine.Section of functions more left q) y
+    Here more left = MachineRest loose p (machine.Section of counts more left q) y
 
     in_section : (more left : ℕ) → Goes c (ComponentRest loose p q y) → Goes c (Here more left)
     in_section more left g =
         let T : MarkedForm = Times left (OneOf loose p of) in
         let W : MarkedForm = Within loose p of left q y in
-        then_goes c (Sized loose (suc more) W) (Later loose p (id_of of) functions) (sized_goes c (suc more) W (then_goes c (ComponentRest loose p q y) T g (some_times left (OneOf loose p of) (some_one p of)))) (some_later p (id_of of) functions)
+        then_goes c (Sized loose (suc more) W) (Later loose p (id_of of) counts) (sized_goes c (suc more) W (then_goes c (ComponentRest loose p q y) T g (some_times left (OneOf loose p of) (some_one p of)))) (some_later p (id_of of) counts)
 
     ends_section : (more : ℕ) (m : Mark) → Next loose (ComponentRest loose p q y) c m Empty → Ends c (Here more zero)
     ends_section more m n =
-        sized_ends c (suc more) (Within loose p of zero q y) (Later loose p (id_of of) functions) m
-        (record { front = c ∷ []; back = []; front_marks = m ∷ []; back_marks = []; bytes = refl; marks = refl; first = n.from [] (m ∷ []) ([], refl, (refl, refl)); second = (refl, refl) }) (closing p of functions)
+        sized_ends c (suc more) (Within loose p of zero q y) (Later loose p (id_of of) counts) m
+        (record { front = c ∷ []; back = []; front_marks = m ∷ []; back_marks = []; bytes = refl; marks = refl; first = n.from [] (m ∷ []) ([], refl, (refl, refl)); second = (refl, refl) }) (closing p of counts)
 
-    section_cut : (last more left : ℕ) (used : List ℕ) → InContents last (id_of of) more used → CanGo p (suc more) q → IsText (member_step p q c).1 (y ++ c ∷ []) → machine_in_member of functions more left (member_step p q c).0 ≡ machine.Refused why.SectionEnd → Cut (Here more left) used
+    section_cut : (last more left : ℕ) (used : List ℕ) → InContents last (id_of of) more used → CanGo p (suc more) q → IsText (member_step p q c).1 (y ++ c ∷ []) → machine_in_member of counts more left (member_step p q c).0 ≡ machine.Refused why.SectionEnd → Cut (Here more left) used
     section_cut last more left used h can text e = go more left (member_step p q c).0 refl h e
       where
         read : ByteRead InMember
@@ -295,7 +299,7 @@ module _ (p : Profile) (c : ℕ) (byte : c < 2 ^ 8) where
             next_goes c (ComponentRest loose p q y) (ComponentRest loose p read.at read.name) read.mark next
             (comes_at p more read.at read.name (subst (MayGo p more) (sym same) (can_go_on p more q c byte can)) (subst StandsAt (sym same) s))
 
-        go : (n l : ℕ) (r : InMember) → (member_step p q c).0 ≡ r → InContents last (id_of of) n used → machine_in_member of functions n l r ≡ machine.Refused why.SectionEnd → Cut (Here n l) used
+        go : (n l : ℕ) (r : InMember) → (member_step p q c).0 ≡ r → InContents last (id_of of) n used → machine_in_member of counts n l r ≡ machine.Refused why.SectionEnd → Cut (Here n l) used
         go n l (at.Failed w) s h e = absurd (not_past_end c p q (within p (suc more) q can.1) (s ∙ ap at.Failed (same_refused w why.SectionEnd e)))
         go zero zero at.Over s h e = absurd (cc)
         go (suc n) zero at.Over s h e = inr (last, id_of of, n, h, ends_section (suc n) read.mark (subst (λ r. Next loose (ComponentRest loose p q y) c read.mark (ComponentRest loose p r read.name)) (same ∙ s) next))
@@ -305,80 +309,80 @@ module _ (p : Profile) (c : ℕ) (byte : c < 2 ^ 8) where
         go (suc n) l r s h e = absurd (cc)
 
   -- at the count of its members
-  module _ (of : SectionKind) (functions : ℕ) (r : Partial) (y : List ℕ) where
+  module _ (of : SectionKind) (counts : Counts) (r : Partial) (y : List ℕ) where
     abbrev AtCount : ℕ → MarkedForm
-    AtCount more = MachineRest loose p (machine.Count of functions more r) y
+    AtCount more = MachineRest loose p (machine.Count of counts more r) y
 
-    count_goes : (more : ℕ) → Goes c (Listed loose p of r functions) → Goes c (AtCount more)
+    count_goes : (more : ℕ) → Goes c (Listed loose p of r counts.functions) → Goes c (AtCount more)
     count_goes more g =
-        let L : MarkedForm = Listed loose p of r functions in
-        let t = then_goes c (Sized loose (suc more) L) (After loose p of functions) (sized_goes c (suc more) L g) (some_after p of functions) in
-        (t.0, t.1, (functions, (λ l. refl), t.2))
+        let L : MarkedForm = Listed loose p of r counts.functions in
+        let t = then_goes c (Sized loose (suc more) L) (After loose p of counts.functions) (sized_goes c (suc more) L g) (some_after p of counts.functions) in
+        (t.0, t.1, (counts.functions, (λ l. refl), t.2))
 
     count_ends : (more : ℕ) → ((f : ℕ) → Next loose (Listed loose p of r f) c (outside_mark None) (ListOf loose p of f 0)) → Ends c (AtCount more)
     count_ends more n =
-        let l = closing p of functions in
+        let l = closing p of counts in
         let f : ℕ = l.3.0 in
         let x = n f in
         let t = sized_ends c (suc more) (Listed loose p of r f) (After loose p of f) (outside_mark None) (x.from [] (outside_mark None ∷ []) ([], refl, none_listed p of f)) (l.0, l.1, l.2, l.3.2) in
         (t.0, t.1, t.2, (f, (λ a. l.3.1 (omega (arith, a))), t.3))
 
-    count_cut : (last more : ℕ) (used : List ℕ) → InContents last (id_of of) more used → HasRoom 32 r → (after_count of functions more (unsigned_push 32 r c)).0 ≡ machine.Refused why.SectionEnd → Cut (AtCount more) used
+    count_cut : (last more : ℕ) (used : List ℕ) → InContents last (id_of of) more used → HasRoom 32 r → (after_count of counts more (unsigned_push 32 r c)).0 ≡ machine.Refused why.SectionEnd → Cut (AtCount more) used
     count_cut last more used h room = go (unsigned_push 32 r c) (unsigned_room 32 r c room byte) (λ f. counted_next loose nothing_at (ListOf loose p of f) r c byte) more h
       where
-        go : (x : Step ℕ × Partial) → RoomAfter 32 x → ((f : ℕ) → CountedNext loose nothing_at (ListOf loose p of f) r c x) → (m : ℕ) → InContents last (id_of of) m used → (after_count of functions m x).0 ≡ machine.Refused why.SectionEnd → Cut (AtCount m) used
+        go : (x : Step ℕ × Partial) → RoomAfter 32 x → ((f : ℕ) → CountedNext loose nothing_at (ListOf loose p of f) r c x) → (m : ℕ) → InContents last (id_of of) m used → (after_count of counts m x).0 ≡ machine.Refused why.SectionEnd → Cut (AtCount m) used
         go (More, s) a n zero h e =
-            let L : MarkedForm = Listed loose p of s functions in
-            inl (last, id_of of, h, count_goes zero (next_goes c (Listed loose p of r functions) L (outside_mark None) (n functions) (some_counted nothing_at (ListOf loose p of functions) s a (some_listed p of functions))))
+            let L : MarkedForm = Listed loose p of s counts.functions in
+            inl (last, id_of of, h, count_goes zero (next_goes c (Listed loose p of r counts.functions) L (outside_mark None) (n counts.functions) (some_counted nothing_at (ListOf loose p of counts.functions) s a (some_listed p of counts.functions))))
         go (More, s) a n (suc m) h e = absurd (cc)
-        go (Done v, s) a n zero h e = inl (last, id_of of, h, count_goes zero (next_goes c (Listed loose p of r functions) (ListOf loose p of functions v) (outside_mark None) (n functions) (some_listed p of functions v)))
+        go (Done v, s) a n zero h e = inl (last, id_of of, h, count_goes zero (next_goes c (Listed loose p of r counts.functions) (ListOf loose p of counts.functions v) (outside_mark None) (n counts.functions) (some_listed p of counts.functions v)))
         go (Done zero, s) a n (suc m) h e = inr (last, id_of of, m, h, count_ends (suc m) n)
-        go (Done (suc v), s) a n (suc m) h e = absurd (elim (paired_end of functions (suc m) (suc v) e) [ inl i ↦ omega (arith, i) | inr i ↦ omega (arith, i) ])
+        go (Done (suc v), s) a n (suc m) h e = absurd (elim (paired_end of counts (suc m) (suc v) e) [ inl i ↦ omega (arith, i) | inr i ↦ omega (arith, i) ])
         go (Bad, s) a n m h e = absurd (cc)
 
   -- at its size
-  size_cut : (last : ℕ) (of : SectionKind) (functions : ℕ) (r : Partial) (y used : List ℕ) → Sizes last functions (id_of of) used (unsigned_push 32 r c) → (step_of p (machine.Size of functions r) c).0 ≡ machine.Refused why.SectionEnd → Cut (MachineRest loose p (machine.Size of functions r) y) used
-  size_cut last of functions r y used = go (unsigned_push 32 r c) (counted_next loose nothing_at (InSize loose p of functions) r c byte)
+  size_cut : (last : ℕ) (of : SectionKind) (counts : Counts) (r : Partial) (y used : List ℕ) → Sizes last counts (id_of of) used (unsigned_push 32 r c) → (step_of p (machine.Size of counts r) c).0 ≡ machine.Refused why.SectionEnd → Cut (MachineRest loose p (machine.Size of counts r) y) used
+  size_cut last of counts r y used = go (unsigned_push 32 r c) (counted_next loose nothing_at (InSize loose p of counts.functions) r c byte)
     where
-      go : (x : Step ℕ × Partial) → CountedNext loose nothing_at (InSize loose p of functions) r c x → Sizes last functions (id_of of) used x
-          → (on_number x (λ s. machine.Size of functions s) (λ n. (after_size of functions n, event.Nothing)) machine.Refused).0 ≡ machine.Refused why.SectionEnd → Cut (MachineRest loose p (machine.Size of functions r) y) used
+      go : (x : Step ℕ × Partial) → CountedNext loose nothing_at (InSize loose p of counts.functions) r c x → Sizes last counts (id_of of) used x
+          → (on_number x (λ s. machine.Size of counts s) (λ n. (after_size of counts n, event.Nothing)) machine.Refused).0 ≡ machine.Refused why.SectionEnd → Cut (MachineRest loose p (machine.Size of counts r) y) used
       go (More, s) n h e = absurd (cc)
       go (Done zero, s) n h e =
-          let g = next_goes c (Counted (Left r) nothing_at (InSize loose p of functions)) (InSize loose p of functions 0) (outside_mark None) n (some_size p of functions 0) in
-          inl (last, id_of of, h.0, (g.0, g.1, (functions, (λ l. refl), g.2)))
-      go (Done (suc v), s) n h e = absurd (contents_not of functions v e)
+          let g = next_goes c (Counted (Left r) nothing_at (InSize loose p of counts.functions)) (InSize loose p of counts.functions 0) (outside_mark None) n (some_size p of counts.functions 0) in
+          inl (last, id_of of, h.0, (g.0, g.1, (counts.functions, (λ l. refl), g.2)))
+      go (Done (suc v), s) n h e = absurd (contents_not of counts v e)
       go (Bad, s) n h e = absurd (cc)
 
   -- in a custom section
-  module _ (last functions : ℕ) where
+  module _ (last : ℕ) (counts : Counts) where
     abbrev Named : ℕ → MarkedForm
-    Named n = Then (Filled loose n (Name loose unnamed)) (Later loose p last functions)
+    Named n = Then (Filled loose n (Name loose unnamed)) (Later loose p last counts)
 
-    custom_size_cut : (r : Partial) (y used : List ℕ) → Sizes last functions 0 used (unsigned_push 32 r c) → (step_of p (machine.CustomSize last functions r) c).0 ≡ machine.Refused why.SectionEnd → Cut (MachineRest loose p (machine.CustomSize last functions r) y) used
+    custom_size_cut : (r : Partial) (y used : List ℕ) → Sizes last counts 0 used (unsigned_push 32 r c) → (step_of p (machine.CustomSize last counts r) c).0 ≡ machine.Refused why.SectionEnd → Cut (MachineRest loose p (machine.CustomSize last counts r) y) used
     custom_size_cut r y used = go (unsigned_push 32 r c) (counted_next loose nothing_at Named r c byte)
       where
-        go : (x : Step ℕ × Partial) → CountedNext loose nothing_at Named r c x → Sizes last functions 0 used x
-            → (on_number x (λ s. machine.CustomSize last functions s) (λ n. (custom_size last functions n, event.Nothing)) machine.Refused).0 ≡ machine.Refused why.SectionEnd → Cut (MachineRest loose p (machine.CustomSize last functions r) y) used
+        go : (x : Step ℕ × Partial) → CountedNext loose nothing_at Named r c x → Sizes last counts 0 used x
+            → (on_number x (λ s. machine.CustomSize last counts s) (λ n. (custom_size last counts n, event.Nothing)) machine.Refused).0 ≡ machine.Refused why.SectionEnd → Cut (MachineRest loose p (machine.CustomSize last counts r) y) used
         go (More, s) n h e = absurd (cc)
         go (Done zero, s) n h e =
-            inl (last, 0, h.0, next_goes c (Counted (Left r) nothing_at Named) (Named 0) (outside_mark None) n (some_then (Filled loose 0 (Name loose unnamed)) (Later loose p last functions) (some_filled 0 (Name loose unnamed) (some_name unnamed)) (some_later p last functions)))
+            inl (last, 0, h.0, next_goes c (Counted (Left r) nothing_at Named) (Named 0) (outside_mark None) n (some_then (Filled loose 0 (Name loose unnamed)) (Later loose p last counts) (some_filled 0 (Name loose unnamed) (some_name unnamed)) (some_later p last counts)))
         go (Done (suc v), s) n h e = absurd (cc)
         go (Bad, s) n h e = absurd (cc)
 
-    in_custom : (more : ℕ) (q : InCustom) (y : List ℕ) → IsText (custom_step q c).1 (y ++ c ∷ []) → FitsCustom (custom_step q c).0 → Goes c (MachineRest loose p (machine.Custom last functions more q) y)
+    in_custom : (more : ℕ) (q : InCustom) (y : List ℕ) → IsText (custom_step q c).1 (y ++ c ∷ []) → FitsCustom (custom_step q c).0 → Goes c (MachineRest loose p (machine.Custom last counts more q) y)
     in_custom more q y text f =
         let h = byte_read custom.Failed outside y c (custom_step q c) in
         let same : h.at ≡ (custom_step q c).0 = heard_at custom.Failed outside y c (custom_step q c).0 (custom_step q c).1 text in
         let R : MarkedForm = CustomRest loose (suc more) q y in
-        then_goes c R (Later loose p last functions) (next_goes c R (CustomRest loose more h.at h.name) h.mark (custom_follows loose more y c q byte) (some_custom more h.at h.name (subst FitsCustom (sym same) f))) (some_later p last functions)
+        then_goes c R (Later loose p last counts) (next_goes c R (CustomRest loose more h.at h.name) h.mark (custom_follows loose more y c q byte) (some_custom more h.at h.name (subst FitsCustom (sym same) f))) (some_later p last counts)
 
-    custom_cut : (more : ℕ) (q : InCustom) (y used : List ℕ) → InContents last 0 more used → FitsCustom q → IsText (custom_step q c).1 (y ++ c ∷ []) → machine_in_custom last functions more (custom_step q c).0 ≡ machine.Refused why.SectionEnd
-        → Cut (MachineRest loose p (machine.Custom last functions more q) y) used
+    custom_cut : (more : ℕ) (q : InCustom) (y used : List ℕ) → InContents last 0 more used → FitsCustom q → IsText (custom_step q c).1 (y ++ c ∷ []) → machine_in_custom last counts more (custom_step q c).0 ≡ machine.Refused why.SectionEnd
+        → Cut (MachineRest loose p (machine.Custom last counts more q) y) used
     custom_cut more q y used h fits text e =
         let a = ended more (custom_step q c).0 (custom_fine q c byte fits) (custom_not q c fits) e in
         inl (last, 0, subst (λ n. InContents last 0 n used) a.0 h, in_custom more q y text a.1)
       where
-        ended : (n : ℕ) (r : InCustom) → FineCustom r → (r ≡ custom.Failed why.SectionEnd → ⊥) → machine_in_custom last functions n r ≡ machine.Refused why.SectionEnd → (n ≡ 0) × FitsCustom r
+        ended : (n : ℕ) (r : InCustom) → FineCustom r → (r ≡ custom.Failed why.SectionEnd → ⊥) → machine_in_custom last counts n r ≡ machine.Refused why.SectionEnd → (n ≡ 0) × FitsCustom r
         ended n (custom.Failed w) f not e = absurd (not (ap custom.Failed (same_refused w why.SectionEnd e)))
         ended zero custom.Skip f not e = absurd (cc)
         ended zero (custom.Length s) f not e = (refl, f)
@@ -389,12 +393,12 @@ module _ (p : Profile) (c : ℕ) (byte : c < 2 ^ 8) where
 
   cut_says : (m : Machine) (b y : List ℕ) → Fits p m → (IsRefused m → ⊥) → Framed m b → IsText (step_of p m c).1 (y ++ c ∷ []) → (step_of p m c).0 ≡ machine.Refused why.SectionEnd → Cut (MachineRest loose p m y) (b ++ c ∷ [])
   cut_says (machine.Header n) b y fits live f text e = absurd (header_not n c e)
-  cut_says (machine.Between last functions) b y fits live f text e = absurd (start_not last functions c e)
-  cut_says (machine.CustomSize last functions r) b y fits live f text e = custom_size_cut last functions r y (b ++ c ∷ []) (at_size last functions 0 r b c byte f.0 f.1) e
-  cut_says (machine.Custom last functions more q) b y fits live f text e = custom_cut last functions more q y (b ++ c ∷ []) (one_byte last 0 more b c f.0) fits.1 text e
-  cut_says (machine.Size of functions r) b y fits live f text e = size_cut f.0 of functions r y (b ++ c ∷ []) (at_size f.0 functions (id_of of) r b c byte f.2 f.3) e
-  cut_says (machine.Count of functions more r) b y fits live f text e = count_cut of functions r y f.0 more (b ++ c ∷ []) (one_byte f.0 (id_of of) more b c f.2) fits.0 e
-  cut_says (machine.Section of functions more left q) b y fits live f text e = section_cut of functions q y f.0 more left (b ++ c ∷ []) (one_byte f.0 (id_of of) more b c f.2) fits.2 text e
+  cut_says (machine.Between last counts) b y fits live f text e = absurd (start_not last counts c e)
+  cut_says (machine.CustomSize last counts r) b y fits live f text e = custom_size_cut last counts r y (b ++ c ∷ []) (at_size last counts 0 r b c byte f.0 f.1) e
+  cut_says (machine.Custom last counts more q) b y fits live f text e = custom_cut last counts more q y (b ++ c ∷ []) (one_byte last 0 more b c f.0) fits.1 text e
+  cut_says (machine.Size of counts r) b y fits live f text e = size_cut f.0 of counts r y (b ++ c ∷ []) (at_size f.0 counts (id_of of) r b c byte f.2 f.3) e
+  cut_says (machine.Count of counts more r) b y fits live f text e = count_cut of counts r y f.0 more (b ++ c ∷ []) (one_byte f.0 (id_of of) more b c f.2) fits.0 e
+  cut_says (machine.Section of counts more left q) b y fits live f text e = section_cut of counts q y f.0 more left (b ++ c ∷ []) (one_byte f.0 (id_of of) more b c f.2) fits.2 text e
   cut_says (machine.Refused w) b y fits live f text e = absurd (live tt)
 
 -- of the bytes

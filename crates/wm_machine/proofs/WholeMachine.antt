@@ -10,6 +10,7 @@ use Rattle.wm_syntax.specs.declared.numbers.Step.{Step}
 use Rattle.wm_syntax.specs.declared.numbers.Step.TheVariants.{More, Done, Bad}
 use Rattle.wm_syntax.specs.inner.Numbers.{Partial}
 use Rattle.wm_syntax.specs.exact.Reading.{fresh, unsigned_push}
+use Rattle.wm_machine.specs.declared.machine.Counts.{Counts}
 use Rattle.wm_machine.specs.declared.machine.InCustom.{InCustom}
 use Rattle.wm_machine.specs.declared.machine.InCustom.TheVariants as custom
 use Rattle.wm_machine.specs.declared.machine.Machine.{Machine}
@@ -26,7 +27,7 @@ use Rattle.wm_machine.specs.Sections.{header}
 use Rattle.wm_machine.specs.Grammar.{Contents, Chain, ModuleForm}
 use Rattle.wm_machine.specs.exact.Members.{id_of, section_kind_of, member_at_start as begin_component}
 use Rattle.wm_machine.specs.exact.MemberSteps.{on_number, member_step}
-use Rattle.wm_machine.specs.exact.Steps.{machine_in_custom, custom_step, machine_in_member, machine_after_count, machine_after_paired_count, after_count, begun_section, machine_if_rising, section_start, after_size, custom_size, header_step, step_of}
+use Rattle.wm_machine.specs.exact.Steps.{no_counts, counts_in, begun_last, machine_in_custom, custom_step, machine_in_member, machine_after_count, machine_after_paired_count, after_count, begun_section, machine_if_rising, section_start, after_size, custom_size, header_step, step_of}
 use Rattle.wm_machine.specs.exact.Runs.{name_item, byte_read, ByteRead, MachineState, zone_in, zone_of, read_byte, after_byte, state_after, marks, state_at_start, plain_item}
 use Rattle.wm_machine.proofs.FirstBytes.{Next, Same, HasBytes, Never, head_same, tail_same, not_nil, same_refl, same_then, next_to, next_never, next_then, then_has, empty_then, never_then, then_same, ends_first, fails_first}
 use Rattle.wm_machine.proofs.Numbers.{Left}
@@ -41,16 +42,16 @@ use Rattle.wm_machine.proofs.MachineStates.{IsNamed, component_named, FitsAt, Fi
 
 -- a module may end here
 abbrev pub MayEnd : Machine → Type 0
-MayEnd (machine.Between last zero) = Unit {0}
+MayEnd (machine.Between last counts) = counts.functions ≡ 0
 MayEnd m = ⊥
 
 -- The number of functions is known after their section, and after code it is zero.
-abbrev pub Known : (last functions f : ℕ) → Type 0
-Known last functions f = 3 ≤ last → f ≡ functions
+abbrev pub Known : (last : ℕ) (counts : Counts) (f : ℕ) → Type 0
+Known last counts f = 3 ≤ last → f ≡ counts.functions
 
 -- the same in the section of this id
-abbrev pub KnownIn : (id functions f : ℕ) → Type 0
-KnownIn id functions f = 3 < id → f ≡ functions
+abbrev pub KnownIn : (id : ℕ) (counts : Counts) (f : ℕ) → Type 0
+KnownIn id counts f = 3 < id → f ≡ counts.functions
 
 below_or : (a b : ℕ) → (a < b) ⊎ (b ≤ a)
 below_or a b = (elim (nat_lt a b) as (λ v. nat_lt a b ≡ v → (a < b) ⊎ (b ≤ a)) [
@@ -60,8 +61,8 @@ below_or a b = (elim (nat_lt a b) as (λ v. nat_lt a b ≡ v → (a < b) ⊎ (b 
 
 module _ (demanded : Type 0) (p : Profile) where
   -- the sections after the last one, where so many functions await their code
-  abbrev pub Later : (last functions : ℕ) → MarkedForm
-  Later last functions = ForSome (Known last functions) (λ f. Chain demanded p f (11 - last) (suc last))
+  abbrev pub Later : (last : ℕ) (counts : Counts) → MarkedForm
+  Later last counts = ForSome (Known last counts) (λ f. Chain demanded p f (11 - last) (suc last))
 
   -- the sections after this one
   abbrev pub After : SectionKind → ℕ → MarkedForm
@@ -84,16 +85,16 @@ module _ (demanded : Type 0) (p : Profile) where
   Within of left q so_far = Then (ComponentRest demanded p q so_far) (Times left (OneOf demanded p of))
 
   abbrev pub InHeader : ℕ → MarkedForm
-  InHeader n b k = (n < 8) × Then (Literal (drop n header)) (Later 0 0) b k
+  InHeader n b k = (n < 8) × Then (Literal (drop n header)) (Later 0 no_counts) b k
 
   abbrev pub MachineRest : Machine → List ℕ → MarkedForm
   MachineRest (machine.Header n) so_far = InHeader n
-  MachineRest (machine.Between last functions) so_far = Later last functions
-  MachineRest (machine.CustomSize last functions r) so_far = Counted (Left r) nothing_at (λ n. Then (Filled demanded n (Name demanded unnamed)) (Later last functions))
-  MachineRest (machine.Custom last functions more q) so_far = Then (CustomRest demanded (suc more) q so_far) (Later last functions)
-  MachineRest (machine.Size of functions r) so_far = ForSome (KnownIn (id_of of) functions) (λ f. Counted (Left r) nothing_at (InSize of f))
-  MachineRest (machine.Count of functions more r) so_far = ForSome (KnownIn (id_of of) functions) (λ f. Then (Sized demanded (suc more) (Listed of r f)) (After of f))
-  MachineRest (machine.Section of functions more left q) so_far = Then (Sized demanded (suc more) (Within of left q so_far)) (Later (id_of of) functions)
+  MachineRest (machine.Between last counts) so_far = Later last counts
+  MachineRest (machine.CustomSize last counts r) so_far = Counted (Left r) nothing_at (λ n. Then (Filled demanded n (Name demanded unnamed)) (Later last counts))
+  MachineRest (machine.Custom last counts more q) so_far = Then (CustomRest demanded (suc more) q so_far) (Later last counts)
+  MachineRest (machine.Size of counts r) so_far = ForSome (KnownIn (id_of of) counts) (λ f. Counted (Left r) nothing_at (InSize of f))
+  MachineRest (machine.Count of counts more r) so_far = ForSome (KnownIn (id_of of) counts) (λ f. Then (Sized demanded (suc more) (Listed of r f)) (After of f))
+  MachineRest (machine.Section of counts more left q) so_far = Then (Sized demanded (suc more) (Within of left q so_far)) (Later (id_of of) counts)
   MachineRest (machine.Refused w) so_far = Never
 
   abbrev pub StateRest : MachineState → MarkedForm
@@ -131,41 +132,41 @@ module _ (demanded : Type 0) (p : Profile) where
         ]) h
 
   -- in a custom section
-  custom_same : (last functions more : ℕ) (q : InCustom) (y : List ℕ) → Same demanded (Then (CustomRest demanded more q y) (Later last functions)) (MachineRest (machine_in_custom last functions more q) y)
-  custom_same last functions more (custom.Failed w) y = never_then demanded Never (Later last functions) (same_refl demanded Never)
-  custom_same last functions zero custom.Skip y = let L : MarkedForm = Later last functions in
+  custom_same : (last : ℕ) (counts : Counts) (more : ℕ) (q : InCustom) (y : List ℕ) → Same demanded (Then (CustomRest demanded more q y) (Later last counts)) (MachineRest (machine_in_custom last counts more q) y)
+  custom_same last counts more (custom.Failed w) y = never_then demanded Never (Later last counts) (same_refl demanded Never)
+  custom_same last counts zero custom.Skip y = let L : MarkedForm = Later last counts in
       same_then demanded (Then (AnyBytes demanded 0) L) (Then Empty L) L (then_same demanded (AnyBytes demanded 0) L Empty L (any_none demanded) (same_refl demanded L)) (empty_then demanded L)
-  custom_same last functions zero (custom.Length r) y = never_then demanded (CustomRest demanded 0 (custom.Length r) y) (Later last functions) (filled_none demanded (TextLeft demanded r unnamed) (text_has demanded unnamed r))
-  custom_same last functions zero (custom.Name more) y = never_then demanded (CustomRest demanded 0 (custom.Name more) y) (Later last functions) (filled_none demanded (NameLeft demanded y (suc more) unnamed) (left_has demanded y more unnamed))
-  custom_same last functions (suc n) custom.Skip y = same_refl demanded (MachineRest (machine.Custom last functions n custom.Skip) y)
-  custom_same last functions (suc n) (custom.Length r) y = same_refl demanded (MachineRest (machine.Custom last functions n (custom.Length r)) y)
-  custom_same last functions (suc n) (custom.Name more) y = same_refl demanded (MachineRest (machine.Custom last functions n (custom.Name more)) y)
+  custom_same last counts zero (custom.Length r) y = never_then demanded (CustomRest demanded 0 (custom.Length r) y) (Later last counts) (filled_none demanded (TextLeft demanded r unnamed) (text_has demanded unnamed r))
+  custom_same last counts zero (custom.Name more) y = never_then demanded (CustomRest demanded 0 (custom.Name more) y) (Later last counts) (filled_none demanded (NameLeft demanded y (suc more) unnamed) (left_has demanded y more unnamed))
+  custom_same last counts (suc n) custom.Skip y = same_refl demanded (MachineRest (machine.Custom last counts n custom.Skip) y)
+  custom_same last counts (suc n) (custom.Length r) y = same_refl demanded (MachineRest (machine.Custom last counts n (custom.Length r)) y)
+  custom_same last counts (suc n) (custom.Name more) y = same_refl demanded (MachineRest (machine.Custom last counts n (custom.Name more)) y)
 
-  in_custom : (last functions more : ℕ) (q : InCustom) (so_far : List ℕ) (c : ℕ) → c < 2 ^ 8 → Continues (MachineRest (machine.Custom last functions more q) so_far) c (listens so_far c (step_of p (machine.Custom last functions more q) c))
-  in_custom last functions more q so_far c byte =
+  in_custom : (last : ℕ) (counts : Counts) (more : ℕ) (q : InCustom) (so_far : List ℕ) (c : ℕ) → c < 2 ^ 8 → Continues (MachineRest (machine.Custom last counts more q) so_far) c (listens so_far c (step_of p (machine.Custom last counts more q) c))
+  in_custom last counts more q so_far c byte =
       let P : MarkedForm = CustomRest demanded (suc more) q so_far in
-      let L : MarkedForm = Later last functions in
-      lifted custom.Failed (CustomRest demanded more) (machine_in_custom last functions more) (λ w. refl) (λ m. Unit {0}) (λ w. tt) P (Then P L) outside so_far c
-      (λ m x y i h. next_to demanded (Then P L) (Then (CustomRest demanded more m y) L) (MachineRest (machine_in_custom last functions more m) y) c x (custom_same last functions more m y) (next_then demanded P L c x (CustomRest demanded more m y) h (custom_has demanded more q so_far)))
+      let L : MarkedForm = Later last counts in
+      lifted custom.Failed (CustomRest demanded more) (machine_in_custom last counts more) (λ w. refl) (λ m. Unit {0}) (λ w. tt) P (Then P L) outside so_far c
+      (λ m x y i h. next_to demanded (Then P L) (Then (CustomRest demanded more m y) L) (MachineRest (machine_in_custom last counts more m) y) c x (custom_same last counts more m y) (next_then demanded P L c x (CustomRest demanded more m y) h (custom_has demanded more q so_far)))
       (custom_step q c).0 (custom_step q c).1 tt (custom_follows demanded more so_far c q byte)
 
   -- at its size
-  abbrev InCustoms : (last functions n : ℕ) → MarkedForm
-  InCustoms last functions n = Then (Filled demanded n (Name demanded unnamed)) (Later last functions)
+  abbrev InCustoms : (last : ℕ) (counts : Counts) (n : ℕ) → MarkedForm
+  InCustoms last counts n = Then (Filled demanded n (Name demanded unnamed)) (Later last counts)
 
-  custom_size_same : (last functions n : ℕ) → Same demanded (InCustoms last functions n) (MachineRest (custom_size last functions n) [])
-  custom_size_same last functions n =
-      let L : MarkedForm = Later last functions in
+  custom_size_same : (last : ℕ) (counts : Counts) (n : ℕ) → Same demanded (InCustoms last counts n) (MachineRest (custom_size last counts n) [])
+  custom_size_same last counts n =
+      let L : MarkedForm = Later last counts in
       let R : MarkedForm = CustomRest demanded n (custom.Length fresh) [] in
-      same_then demanded (InCustoms last functions n) (Then R L) (MachineRest (custom_size last functions n) [])
+      same_then demanded (InCustoms last counts n) (Then R L) (MachineRest (custom_size last counts n) [])
       (then_same demanded (Filled demanded n (Name demanded unnamed)) L R L (filled_same demanded (Name demanded unnamed) (TextLeft demanded fresh unnamed) n (text_fresh demanded unnamed)) (same_refl demanded L))
-      (custom_same last functions n (custom.Length fresh) [])
+      (custom_same last counts n (custom.Length fresh) [])
 
-  custom_sizes : (last functions : ℕ) (r : Partial) (so_far : List ℕ) (c : ℕ) (q : Step ℕ × Partial) → CountedNext demanded nothing_at (InCustoms last functions) r c q
-      → Continues (Counted (Left r) nothing_at (InCustoms last functions)) c (listens so_far c (on_number q (λ s. machine.CustomSize last functions s) (λ n. (custom_size last functions n, event.Nothing)) machine.Refused))
-  custom_sizes last functions r so_far c (More, s) h = h
-  custom_sizes last functions r so_far c (Done v, s) h = next_to demanded (Counted (Left r) nothing_at (InCustoms last functions)) (InCustoms last functions v) (MachineRest (custom_size last functions v) []) c (outside_mark None) (custom_size_same last functions v) h
-  custom_sizes last functions r so_far c (Bad, s) h = h
+  custom_sizes : (last : ℕ) (counts : Counts) (r : Partial) (so_far : List ℕ) (c : ℕ) (q : Step ℕ × Partial) → CountedNext demanded nothing_at (InCustoms last counts) r c q
+      → Continues (Counted (Left r) nothing_at (InCustoms last counts)) c (listens so_far c (on_number q (λ s. machine.CustomSize last counts s) (λ n. (custom_size last counts n, event.Nothing)) machine.Refused))
+  custom_sizes last counts r so_far c (More, s) h = h
+  custom_sizes last counts r so_far c (Done v, s) h = next_to demanded (Counted (Left r) nothing_at (InCustoms last counts)) (InCustoms last counts v) (MachineRest (custom_size last counts v) []) c (outside_mark None) (custom_size_same last counts v) h
+  custom_sizes last counts r so_far c (Bad, s) h = h
 
   -- the contents of a section
   abbrev IsList : SectionKind → ℕ → MarkedForm
@@ -177,11 +178,11 @@ module _ (demanded : Type 0) (p : Profile) where
   contents_same of f = number_fresh demanded nothing_at (ListOf of f) (ListOf of f) (λ n. same_refl demanded (ListOf of f n))
 
   -- once the number of functions was read
-  list_read : (of : SectionKind) (functions more v : ℕ) → (id_of of ≡ 3 → ⊥) → Same demanded (ForSome (KnownIn (id_of of) functions) (λ f. Then (Sized demanded more (Times v (OneOf demanded p of))) (After of f))) (Then (Sized demanded more (Times v (OneOf demanded p of))) (Later (id_of of) functions))
-  list_read of functions more v other =
+  list_read : (of : SectionKind) (counts : Counts) (more v : ℕ) → (id_of of ≡ 3 → ⊥) → Same demanded (ForSome (KnownIn (id_of of) counts) (λ f. Then (Sized demanded more (Times v (OneOf demanded p of))) (After of f))) (Then (Sized demanded more (Times v (OneOf demanded p of))) (Later (id_of of) counts))
+  list_read of counts more v other =
       let S : MarkedForm = Sized demanded more (Times v (OneOf demanded p of)) in
-      let C : ℕ → Type 0 = KnownIn (id_of of) functions in
-      let D : ℕ → Type 0 = Known (id_of of) functions in
+      let C : ℕ → Type 0 = KnownIn (id_of of) counts in
+      let D : ℕ → Type 0 = Known (id_of of) counts in
       same_then demanded (ForSome C (λ f. Then S (After of f))) (Then S (ForSome C (After of))) (Then S (ForSome D (After of)))
       (some_then demanded C S (After of))
       (then_same demanded S (ForSome C (After of)) S (ForSome D (After of)) (same_refl demanded S)
@@ -190,36 +191,36 @@ module _ (demanded : Type 0) (p : Profile) where
       above : (id : ℕ) → (id ≡ 3 → ⊥) → 3 ≤ id → 3 < id
       above id other l = elim (same_or_more 3 id l) [ inl e ↦ absurd (other (sym e)) | inr a ↦ a ]
 
-  code_read : (functions more v : ℕ) → v ≡ functions
-      → Same demanded (ForSome (KnownIn 10 functions) (λ f. Then (Sized demanded more (ListOf section_kind.Code f v)) (After section_kind.Code f))) (Then (Sized demanded more (Times v (OneOf demanded p section_kind.Code))) (Later 10 0))
-  code_read functions more v e =
+  code_read : (counts : Counts) (more v : ℕ) → v ≡ counts.functions
+      → Same demanded (ForSome (KnownIn 10 counts) (λ f. Then (Sized demanded more (ListOf section_kind.Code f v)) (After section_kind.Code f))) (Then (Sized demanded more (Times v (OneOf demanded p section_kind.Code))) (Later 10 (counts_in section_kind.Code counts v)))
+  code_read counts more v e =
       let X : MarkedForm = Times v (OneOf demanded p section_kind.Code) in
-      let D : ℕ → Type 0 = λ f. f ≡ functions in
+      let D : ℕ → Type 0 = λ f. f ≡ counts.functions in
       let Q : ℕ → MarkedForm = After section_kind.Code in
-      same_then demanded (ForSome (KnownIn 10 functions) (λ f. Then (Sized demanded more (Where (demanded → v ≡ f) X)) (Q f))) (Then (Sized demanded more X) (ForSome D Q)) (Then (Sized demanded more X) (Later 10 0))
-      (some_read demanded (KnownIn 10 functions) D v more X Q (λ f k w. k (omega arith)) (λ f d. (λ l. d, e ∙ sym d)))
-      (then_same demanded (Sized demanded more X) (ForSome D Q) (Sized demanded more X) (Later 10 0) (same_refl demanded (Sized demanded more X)) (record {
+      same_then demanded (ForSome (KnownIn 10 counts) (λ f. Then (Sized demanded more (Where (demanded → v ≡ f) X)) (Q f))) (Then (Sized demanded more X) (ForSome D Q)) (Then (Sized demanded more X) (Later 10 (counts_in section_kind.Code counts v)))
+      (some_read demanded (KnownIn 10 counts) D v more X Q (λ f k w. k (omega arith)) (λ f d. (λ l. d, e ∙ sym d)))
+      (then_same demanded (Sized demanded more X) (ForSome D Q) (Sized demanded more X) (Later 10 (counts_in section_kind.Code counts v)) (same_refl demanded (Sized demanded more X)) (record {
         to = λ s b k h. (0, λ l. refl, renumbered demanded p h.0 0 b k h.2);
-        from = λ b k h. (functions, refl, renumbered demanded p h.0 functions b k h.2);
+        from = λ b k h. (counts.functions, refl, renumbered demanded p h.0 counts.functions b k h.2);
       }))
 
-  code_other : (functions more v : ℕ) → (v ≡ functions → ⊥) → Same demanded (ForSome (KnownIn 10 functions) (λ f. Then (Sized demanded more (ListOf section_kind.Code f v)) (After section_kind.Code f))) Never
-  code_other functions more v ne =
-      some_never demanded (KnownIn 10 functions) (λ f. Then (Sized demanded more (ListOf section_kind.Code f v)) (After section_kind.Code f)) (λ f k.
+  code_other : (counts : Counts) (more v : ℕ) → (v ≡ counts.functions → ⊥) → Same demanded (ForSome (KnownIn 10 counts) (λ f. Then (Sized demanded more (ListOf section_kind.Code f v)) (After section_kind.Code f))) Never
+  code_other counts more v ne =
+      some_never demanded (KnownIn 10 counts) (λ f. Then (Sized demanded more (ListOf section_kind.Code f v)) (After section_kind.Code f)) (λ f k.
       never_then demanded (Sized demanded more (ListOf section_kind.Code f v)) (After section_kind.Code f) (record {
         to = λ s b m h. ne (h.1.0 s ∙ k (omega arith));
         from = λ b m h. absurd h;
       }))
 
-  function_read : (functions more v : ℕ)
-      → Same demanded (ForSome (KnownIn 3 functions) (λ f. Then (Sized demanded more (ListOf section_kind.Function f v)) (After section_kind.Function f))) (Then (Sized demanded more (Times v (OneOf demanded p section_kind.Function))) (Later 3 v))
-  function_read functions more v =
-      some_read demanded (KnownIn 3 functions) (Known 3 v) v more (Times v (OneOf demanded p section_kind.Function)) (After section_kind.Function) (λ f k e l. sym e)
+  function_read : (counts : Counts) (more v : ℕ)
+      → Same demanded (ForSome (KnownIn 3 counts) (λ f. Then (Sized demanded more (ListOf section_kind.Function f v)) (After section_kind.Function f))) (Then (Sized demanded more (Times v (OneOf demanded p section_kind.Function))) (Later 3 (counts_in section_kind.Function counts v)))
+  function_read counts more v =
+      some_read demanded (KnownIn 3 counts) (Known 3 (counts_in section_kind.Function counts v)) v more (Times v (OneOf demanded p section_kind.Function)) (After section_kind.Function) (λ f k e l. sym e)
       (λ f d. (λ l. absurd (omega (arith, l)), sym (d (omega arith))))
 
   -- between sections
-  none_rises : (last functions m : ℕ) → (suc last ≤ suc m → suc m < suc last + (11 - last) → ⊥) → Next demanded (Later last functions) (suc m) (outside_mark None) Never
-  none_rises last functions m none = next_never demanded (Later last functions) (suc m) (outside_mark None) (λ s b k h. not_first demanded p h.0 (11 - last) (suc last) m b k none h.2)
+  none_rises : (last : ℕ) (counts : Counts) (m : ℕ) → (suc last ≤ suc m → suc m < suc last + (11 - last) → ⊥) → Next demanded (Later last counts) (suc m) (outside_mark None) Never
+  none_rises last counts m none = next_never demanded (Later last counts) (suc m) (outside_mark None) (λ s b k h. not_first demanded p h.0 (11 - last) (suc last) m b k none h.2)
 
   -- a section whose id is above the last one
   abbrev Opens : (f last id : ℕ) → Type 0
@@ -249,71 +250,74 @@ module _ (demanded : Type 0) (p : Profile) where
   opens_of of f last m e above = subst (Opens f last) e (opens f last m (omega (arith, e, above)) (omega (arith, e, id_few of)))
 
   -- what is known where it opens
-  module _ (last functions id : ℕ) (fits : FitsAt last functions) (above : last < id) (late : 10 < id → functions ≡ 0) where
-    known_in : (f : ℕ) → Known last functions f → Missing f (suc last) id → KnownIn id functions f
+  module _ (last : ℕ) (counts : Counts) (id : ℕ) (fits : FitsAt last counts) (above : last < id) (late : 10 < id → counts.functions ≡ 0) where
+    known_in : (f : ℕ) → Known last counts f → Missing f (suc last) id → KnownIn id counts f
     known_in f k miss l = elim (below_or last 3) [
       | inl few ↦ miss 3 (omega (arith, few)) l (inl refl) ∙ sym (fits.0 few)
       | inr a ↦ k a
     ]
 
-    none_left : (f : ℕ) → KnownIn id functions f → Missing f (suc last) id
+    none_left : (f : ℕ) → KnownIn id counts f → Missing f (suc last) id
     none_left f k i low high e = elim e [
       | inl a ↦ k (omega (arith, a, high)) ∙ fits.0 (omega (arith, a, low))
       | inr a ↦ k (omega (arith, a, high)) ∙ late (omega (arith, a, high))
     ]
 
-    known_before : (f : ℕ) → KnownIn id functions f → Known last functions f
+    known_before : (f : ℕ) → KnownIn id counts f → Known last counts f
     known_before f k l = k (omega (arith, l, above))
 
-  size_opens : (of : SectionKind) (last functions m : ℕ) → suc m ≡ id_of of → FitsAt last functions → last < id_of of → (10 < id_of of → functions ≡ 0) → Next demanded (Later last functions) (id_of of) (outside_mark None) (MachineRest (machine.Size of functions fresh) [])
-  size_opens of last functions m e fits above late =
-      let C : ℕ → Type 0 = Known last functions in
-      let D : ℕ → Type 0 = KnownIn (id_of of) functions in
+  size_opens : (of : SectionKind) (last : ℕ) (counts : Counts) (m : ℕ) → suc m ≡ id_of of → FitsAt last counts → last < id_of of → (10 < id_of of → counts.functions ≡ 0) → Next demanded (Later last counts) (id_of of) (outside_mark None) (MachineRest (machine.Size of counts fresh) [])
+  size_opens of last counts m e fits above late =
+      let C : ℕ → Type 0 = Known last counts in
+      let D : ℕ → Type 0 = KnownIn (id_of of) counts in
       let M : ℕ → Type 0 = λ f. Missing f (suc last) (id_of of) in
       let Q : ℕ → MarkedForm = λ f. Counted (Left fresh) nothing_at (InSize of f) in
-      next_to demanded (Later last functions) (ForSome C (λ f. Where (M f) (Q f))) (ForSome D Q) (id_of of) (outside_mark None)
-      (some_where demanded C D M Q (known_in last functions (id_of of) fits above late) (λ f k. (known_before last functions (id_of of) fits above late f k, none_left last functions (id_of of) fits above late f k)))
+      next_to demanded (Later last counts) (ForSome C (λ f. Where (M f) (Q f))) (ForSome D Q) (id_of of) (outside_mark None)
+      (some_where demanded C D M Q (known_in last counts (id_of of) fits above late) (λ f k. (known_before last counts (id_of of) fits above late f k, none_left last counts (id_of of) fits above late f k)))
       (some_next demanded C (λ f. Chain demanded p f (11 - last) (suc last)) (λ f. Where (M f) (Q f)) (id_of of) (outside_mark None) (λ f. opens_of of f last m e above))
 
   -- no code can come after data
-  no_code : (last n m : ℕ) → suc m ≡ 11 → FitsAt last (suc n) → last < 11 → Next demanded (Later last (suc n)) 11 (outside_mark None) Never
-  no_code last n m e fits above = next_never demanded (Later last (suc n)) 11 (outside_mark None) (λ s b k h.
+  no_code : (last : ℕ) (counts : Counts) (n m : ℕ) → counts.functions ≡ suc n → suc m ≡ 11 → FitsAt last counts → last < 11 → Next demanded (Later last counts) 11 (outside_mark None) Never
+  no_code last counts n m is e fits above = next_never demanded (Later last counts) 11 (outside_mark None) (λ s b k h.
       elim (below_or last 3) [
-        | inl few ↦ let z = fits.0 few in omega (arith, z)
+        | inl few ↦ let z = fits.0 few in omega (arith, z, is)
         | inr known ↦ elim (below_or last 10) [
-          | inr late ↦ let z = fits.1 late in omega (arith, z)
+          | inr late ↦ let z = fits.1 late in omega (arith, z, is)
           | inl early ↦
               let g = (opens_of section_kind.Segment h.0 last m e above).to s b k h.2 in
               let z : h.0 ≡ 0 = g.2.0 10 (omega (arith, early)) (omega arith) (inr refl) in
-              let y : h.0 ≡ suc n = h.1 known in
-              omega (arith, y, z)
+              let y : h.0 ≡ counts.functions = h.1 known in
+              omega (arith, y, z, is)
         ]
       ])
 
-  begun : (of : SectionKind) (last functions m : ℕ) (so_far : List ℕ) → suc m ≡ id_of of → FitsAt last functions → last < id_of of → Continues (Later last functions) (id_of of) (listens so_far (id_of of) (begun_section of functions))
-  begun section_kind.Segment last zero m so_far e fits above = size_opens section_kind.Segment last 0 m e fits above (λ l. refl)
-  begun section_kind.Segment last (suc n) m so_far e fits above = no_code last n m e fits above
-  begun of last functions m so_far e fits above = size_opens of last functions m e fits above (λ l. absurd (omega (arith, l)))
+  begun : (of : SectionKind) (last : ℕ) (counts : Counts) (m : ℕ) (so_far : List ℕ) → suc m ≡ id_of of → FitsAt last counts → last < id_of of → Continues (Later last counts) (id_of of) (listens so_far (id_of of) (begun_section of counts))
+  begun section_kind.Segment last counts m so_far e fits above = at_last counts.functions refl
+    where
+      at_last : (n : ℕ) → counts.functions ≡ n → Continues (Later last counts) 11 (listens so_far 11 (begun_last n counts))
+      at_last zero is = size_opens section_kind.Segment last counts m e fits above (λ l. is)
+      at_last (suc n) is = no_code last counts n m is e fits above
+  begun of last counts m so_far e fits above = size_opens of last counts m e fits above (λ l. absurd (omega (arith, l)))
 
-  rises : (last functions m : ℕ) (so_far : List ℕ) (q : Option SectionKind) → IsNamed (suc m) q → FitsAt last functions → Continues (Later last functions) (suc m) (listens so_far (suc m) (machine_if_rising last functions (suc m) q))
-  rises last functions m so_far None name_item fits = none_rises last functions m (λ low high. omega (arith, name_item, low, high))
-  rises last functions m so_far (Some of) name_item fits =
-      cond_both (nat_le (suc m) last) _ _ (λ (q : Machine × Event). Continues (Later last functions) (suc m) (listens so_far (suc m) q))
-      (λ a. let low : suc m ≤ last = leb-true (suc m) last a in none_rises last functions m (λ up high. omega (arith, low, up)))
+  rises : (last : ℕ) (counts : Counts) (m : ℕ) (so_far : List ℕ) (q : Option SectionKind) → IsNamed (suc m) q → FitsAt last counts → Continues (Later last counts) (suc m) (listens so_far (suc m) (machine_if_rising last counts (suc m) q))
+  rises last counts m so_far None name_item fits = none_rises last counts m (λ low high. omega (arith, name_item, low, high))
+  rises last counts m so_far (Some of) name_item fits =
+      cond_both (nat_le (suc m) last) _ _ (λ (q : Machine × Event). Continues (Later last counts) (suc m) (listens so_far (suc m) q))
+      (λ a. let low : suc m ≤ last = leb-true (suc m) last a in none_rises last counts m (λ up high. omega (arith, low, up)))
       (λ a. let above : last < suc m = leb-false (suc m) last a in
-      subst (λ i. Continues (Later last functions) i (listens so_far i (begun_section of functions))) (sym name_item) (begun of last functions m so_far name_item fits (omega (arith, above, name_item))))
+      subst (λ i. Continues (Later last counts) i (listens so_far i (begun_section of counts))) (sym name_item) (begun of last counts m so_far name_item fits (omega (arith, above, name_item))))
 
-  between : (last functions : ℕ) (so_far : List ℕ) (c : ℕ) → FitsAt last functions → Continues (Later last functions) c (listens so_far c (section_start last functions c))
-  between last functions so_far zero fits =
-      let C : ℕ → Type 0 = Known last functions in
+  between : (last : ℕ) (counts : Counts) (so_far : List ℕ) (c : ℕ) → FitsAt last counts → Continues (Later last counts) c (listens so_far c (section_start last counts c))
+  between last counts so_far zero fits =
+      let C : ℕ → Type 0 = Known last counts in
       let Q : ℕ → MarkedForm = λ f. Chain demanded p f (11 - last) (suc last) in
       let N : ℕ → MarkedForm = λ n. Filled demanded n (Name demanded unnamed) in
-      next_to demanded (Later last functions) (ForSome C (λ f. InCustomSection demanded p f (Q f))) (MachineRest (machine.CustomSize last functions fresh) []) 0 (outside_mark None)
-      (same_then demanded (ForSome C (λ f. Counted (Left fresh) nothing_at (λ n. Then (N n) (Q f)))) (Counted (Left fresh) nothing_at (λ n. ForSome C (λ f. Then (N n) (Q f)))) (Counted (Left fresh) nothing_at (λ n. Then (N n) (Later last functions)))
+      next_to demanded (Later last counts) (ForSome C (λ f. InCustomSection demanded p f (Q f))) (MachineRest (machine.CustomSize last counts fresh) []) 0 (outside_mark None)
+      (same_then demanded (ForSome C (λ f. Counted (Left fresh) nothing_at (λ n. Then (N n) (Q f)))) (Counted (Left fresh) nothing_at (λ n. ForSome C (λ f. Then (N n) (Q f)))) (Counted (Left fresh) nothing_at (λ n. Then (N n) (Later last counts)))
       (some_counted demanded C (Left fresh) nothing_at (λ f n. Then (N n) (Q f)))
-      (counted_same demanded (Left fresh) (Left fresh) nothing_at (λ n. ForSome C (λ f. Then (N n) (Q f))) (λ n. Then (N n) (Later last functions)) (λ n b. (λ h. h, λ h. h)) (λ n. some_then demanded C (N n) Q)))
+      (counted_same demanded (Left fresh) (Left fresh) nothing_at (λ n. ForSome C (λ f. Then (N n) (Q f))) (λ n. Then (N n) (Later last counts)) (λ n b. (λ h. h, λ h. h)) (λ n. some_then demanded C (N n) Q)))
       (some_next demanded C Q (λ f. InCustomSection demanded p f (Q f)) 0 (outside_mark None) (λ f. custom_next demanded p f (11 - last) last))
-  between last functions so_far (suc m) fits = rises last functions m so_far (section_kind_of (suc m)) (component_named m) fits
+  between last counts so_far (suc m) fits = rises last counts m so_far (section_kind_of (suc m)) (component_named m) fits
 
   -- in the header
   literal_next : (d : ℕ) (text : List ℕ) → Next demanded (Literal (d ∷ text)) d (outside_mark None) (Literal text)
@@ -331,25 +335,25 @@ module _ (demanded : Type 0) (p : Profile) where
   header_cut : (n : ℕ) → n < 8 → drop n header ≡ get_or header n 0 ∷ drop (n + 1) header
   header_cut n h = rw add-one (drop-cons header n 0 h)
 
-  header_first : (n c : ℕ) (x : Mark) (Q : MarkedForm) → n < 8 → Next demanded (Then (Literal (get_or header n 0 ∷ drop (n + 1) header)) (Later 0 0)) c x Q → Next demanded (InHeader n) c x Q
+  header_first : (n c : ℕ) (x : Mark) (Q : MarkedForm) → n < 8 → Next demanded (Then (Literal (get_or header n 0 ∷ drop (n + 1) header)) (Later 0 no_counts)) c x Q → Next demanded (InHeader n) c x Q
   header_first n c x Q few h = record {
-    to = λ s b k i. h.to s b k (subst (λ y. Then (Literal y) (Later 0 0) (c ∷ b) k) (header_cut n few) i.1);
-    from = λ b k g. (few, subst (λ y. Then (Literal y) (Later 0 0) (c ∷ b) k) (sym (header_cut n few)) (h.from b k g));
+    to = λ s b k i. h.to s b k (subst (λ y. Then (Literal y) (Later 0 no_counts) (c ∷ b) k) (header_cut n few) i.1);
+    from = λ b k g. (few, subst (λ y. Then (Literal y) (Later 0 no_counts) (c ∷ b) k) (sym (header_cut n few)) (h.from b k g));
   }
 
-  header_more : (n : ℕ) → n < 8 → n < 7 → Next demanded (Then (Literal (get_or header n 0 ∷ drop (n + 1) header)) (Later 0 0)) (get_or header n 0) (outside_mark None) (InHeader (n + 1))
+  header_more : (n : ℕ) → n < 8 → n < 7 → Next demanded (Then (Literal (get_or header n 0 ∷ drop (n + 1) header)) (Later 0 no_counts)) (get_or header n 0) (outside_mark None) (InHeader (n + 1))
   header_more n few fewer =
       let d : ℕ = get_or header n 0 in
       let later : List ℕ = drop (n + 1) header in
       let lt : n + 1 < 8 = omega arith in
-      next_to demanded (Then (Literal (d ∷ later)) (Later 0 0)) (Then (Literal later) (Later 0 0)) (InHeader (n + 1)) d (outside_mark None)
+      next_to demanded (Then (Literal (d ∷ later)) (Later 0 no_counts)) (Then (Literal later) (Later 0 no_counts)) (InHeader (n + 1)) d (outside_mark None)
       (record { to = λ s b k h. (lt, h); from = λ b k h. h.1 })
-      (next_then demanded (Literal (d ∷ later)) (Later 0 0) d (outside_mark None) (Literal later) (literal_next d later) (literal_has d later))
+      (next_then demanded (Literal (d ∷ later)) (Later 0 no_counts) d (outside_mark None) (Literal later) (literal_next d later) (literal_has d later))
 
-  header_last : (n : ℕ) → n < 8 → 7 ≤ n → Next demanded (Then (Literal (get_or header n 0 ∷ drop (n + 1) header)) (Later 0 0)) (get_or header n 0) (outside_mark None) (Later 0 0)
+  header_last : (n : ℕ) → n < 8 → 7 ≤ n → Next demanded (Then (Literal (get_or header n 0 ∷ drop (n + 1) header)) (Later 0 no_counts)) (get_or header n 0) (outside_mark None) (Later 0 no_counts)
   header_last n few last =
       let e : n ≡ 7 = omega arith in
-      rw e (ends_first demanded (Literal (0 ∷ [])) (Later 0 0) (Later 0 0) 0 (outside_mark None) (literal_next 0 []) (literal_has 0 []) (same_refl demanded (Later 0 0)))
+      rw e (ends_first demanded (Literal (0 ∷ [])) (Later 0 no_counts) (Later 0 no_counts) 0 (outside_mark None) (literal_next 0 []) (literal_has 0 []) (same_refl demanded (Later 0 no_counts)))
 
   in_header : (n : ℕ) (so_far : List ℕ) (c : ℕ) → Continues (InHeader n) c (listens so_far c (header_step n c))
   in_header n so_far c =
@@ -361,13 +365,13 @@ module _ (demanded : Type 0) (p : Profile) where
       cond_both (nat_eq c d) _ _ P
       (λ e. rw (eqb-true c d e) (cond_both (nat_lt n 7) _ _ (λ (q : Machine × Event). Continues (InHeader n) d (listens so_far d q))
       (λ f. header_first n d (outside_mark None) (InHeader (n + 1)) few (header_more n few (ltb-true n 7 f)))
-      (λ f. header_first n d (outside_mark None) (Later 0 0) few (header_last n few (ltb-false n 7 f)))))
-      (λ e. let halt : Next demanded (InHeader n) c (outside_mark None) Never = header_first n c (outside_mark None) Never few (fails_first demanded (Literal (d ∷ later)) (Later 0 0) c (outside_mark None) (literal_none d c later (eqb-false c d e)) (literal_has d later)) in
+      (λ f. header_first n d (outside_mark None) (Later 0 no_counts) few (header_last n few (ltb-false n 7 f)))))
+      (λ e. let halt : Next demanded (InHeader n) c (outside_mark None) Never = header_first n c (outside_mark None) Never few (fails_first demanded (Literal (d ∷ later)) (Later 0 no_counts) c (outside_mark None) (literal_none d c later (eqb-false c d e)) (literal_has d later)) in
       cond_both (nat_lt n 4) _ _ P (λ _. halt) (λ _. halt)))
       (λ a. next_never demanded (InHeader n) c (outside_mark None) (λ s b k h. omega (arith, ltb-false n 8 a, h.0)))
 
   in_header_has : (n : ℕ) → HasBytes demanded (InHeader n)
-  in_header_has n s k h = then_has demanded (Literal (get_or header n 0 ∷ drop (n + 1) header)) (Later 0 0) (literal_has (get_or header n 0) (drop (n + 1) header)) s k (subst (λ y. Then (Literal y) (Later 0 0) [] k) (header_cut n h.0) h.1)
+  in_header_has n s k h = then_has demanded (Literal (get_or header n 0 ∷ drop (n + 1) header)) (Later 0 no_counts) (literal_has (get_or header n 0) (drop (n + 1) header)) s k (subst (λ y. Then (Literal y) (Later 0 no_counts) [] k) (header_cut n h.0) h.1)
 
   -- a module as the machine sees it
   pub begin_to : (b : List ℕ) (k : Marks) → ModuleForm demanded p b k → StateRest state_at_start b k
@@ -382,12 +386,12 @@ module _ (demanded : Type 0) (p : Profile) where
       (q.0, record { front = t.front; back = t.back; front_marks = t.front_marks; back_marks = t.back_marks; bytes = t.bytes; marks = t.marks; first = t.first; second = q.2 })
 
   pub may_end : (m : Machine) (so_far : List ℕ) → MayEnd m → MachineRest m so_far [] []
-  may_end (machine.Between last zero) so_far i = (0, λ l. refl, over demanded p 0 (11 - last) (suc last) (λ i e. refl))
+  may_end (machine.Between last counts) so_far i = (0, λ l. sym i, over demanded p 0 (11 - last) (suc last) (λ i e. refl))
   may_end m so_far i = absurd i
 
   -- no function awaits its code where a module ends
-  end_known : (last functions : ℕ) → FitsAt last functions → (f : ℕ) → Known last functions f → Missing f (suc last) (suc last + (11 - last)) → functions ≡ 0
-  end_known last functions fits f k miss = elim (below_or last 3) [
+  end_known : (last : ℕ) (counts : Counts) → FitsAt last counts → (f : ℕ) → Known last counts f → Missing f (suc last) (suc last + (11 - last)) → counts.functions ≡ 0
+  end_known last counts fits f k miss = elim (below_or last 3) [
     | inl few ↦ fits.0 few
     | inr known ↦ elim (below_or last 10) [
       | inr late ↦ fits.1 late
@@ -395,12 +399,11 @@ module _ (demanded : Type 0) (p : Profile) where
     ]
   ]
 
-  is_end : (last functions : ℕ) → functions ≡ 0 → MayEnd (machine.Between last functions)
-  is_end last zero e = tt
-  is_end last (suc n) e = omega (arith, e)
+  is_end : (last : ℕ) (counts : Counts) → counts.functions ≡ 0 → MayEnd (machine.Between last counts)
+  is_end last counts e = e
 
   -- where a member begins
-  begin_at : (of : SectionKind) (y : List ℕ) → Same demanded (OneOf demanded p of) (ComponentRest demanded p (begin_component of) y)
+  pub begin_at : (of : SectionKind) (y : List ℕ) → Same demanded (OneOf demanded p of) (ComponentRest demanded p (begin_component of) y)
   begin_at section_kind.Type y = begin_same demanded p section_kind.Type
   begin_at section_kind.Import y = begin_same demanded p section_kind.Import
   begin_at section_kind.Function y = begin_same demanded p section_kind.Function
@@ -413,180 +416,180 @@ module _ (demanded : Type 0) (p : Profile) where
   begin_at section_kind.Code y = begin_same demanded p section_kind.Code
   begin_at section_kind.Segment y = begin_same demanded p section_kind.Segment
 
-  one_has : (of : SectionKind) → HasBytes demanded (OneOf demanded p of)
+  pub one_has : (of : SectionKind) → HasBytes demanded (OneOf demanded p of)
   one_has of = has_same (OneOf demanded p of) (ComponentRest demanded p (begin_component of) []) (begin_same demanded p of) (component_has demanded p 0 (begin_component of) [] (can_begin p 0 (omega arith) of))
 
   -- in a section
-  abbrev Rest : SectionKind → ℕ → ℕ → InMember → List ℕ → ℕ → MarkedForm
-  Rest of more left q y functions = Then (Sized demanded more (Within of left q y)) (Later (id_of of) functions)
+  abbrev Rest : SectionKind → ℕ → ℕ → InMember → List ℕ → Counts → MarkedForm
+  Rest of more left q y counts = Then (Sized demanded more (Within of left q y)) (Later (id_of of) counts)
 
-  frame_same : (of : SectionKind) (functions more left : ℕ) (q : InMember) (y : List ℕ) → more < 2 ^ 32 → MayGo p more q → Same demanded (Rest of more left q y functions) (MachineRest (machine_in_member of functions more left q) y)
-  frame_same of functions more left (at.Failed w) y few go =
+  frame_same : (of : SectionKind) (counts : Counts) (more left : ℕ) (q : InMember) (y : List ℕ) → more < 2 ^ 32 → MayGo p more q → Same demanded (Rest of more left q y counts) (MachineRest (machine_in_member of counts more left q) y)
+  frame_same of counts more left (at.Failed w) y few go =
       let T : MarkedForm = Times left (OneOf demanded p of) in
-      never_then demanded (Sized demanded more (Then Never T)) (Later (id_of of) functions)
+      never_then demanded (Sized demanded more (Then Never T)) (Later (id_of of) counts)
       (same_then demanded (Sized demanded more (Then Never T)) (Sized demanded more Never) Never (sized_same demanded (Then Never T) Never more (never_then demanded Never T (same_refl demanded Never))) (sized_never demanded more))
-  frame_same of functions zero zero at.Over y few go =
-      let L : MarkedForm = Later (id_of of) functions in
+  frame_same of counts zero zero at.Over y few go =
+      let L : MarkedForm = Later (id_of of) counts in
       let E : MarkedForm = Then Empty Empty in
       same_then demanded (Then (Sized demanded 0 E) L) (Then Empty L) L
       (then_same demanded (Sized demanded 0 E) L Empty L
       (same_then demanded (Sized demanded 0 E) (Sized demanded 0 Empty) Empty (sized_same demanded E Empty 0 (empty_then demanded Empty)) (sized_empty demanded)) (same_refl demanded L))
       (empty_then demanded L)
-  frame_same of functions (suc n) zero at.Over y few go =
+  frame_same of counts (suc n) zero at.Over y few go =
       let E : MarkedForm = Then Empty Empty in
-      never_then demanded (Sized demanded (suc n) E) (Later (id_of of) functions)
+      never_then demanded (Sized demanded (suc n) E) (Later (id_of of) counts)
       (same_then demanded (Sized demanded (suc n) E) (Sized demanded (suc n) Empty) Never (sized_same demanded E Empty (suc n) (empty_then demanded Empty)) (sized_over demanded n))
-  frame_same of functions zero (suc l) at.Over y few go =
+  frame_same of counts zero (suc l) at.Over y few go =
       let T : MarkedForm = Then (OneOf demanded p of) (Times l (OneOf demanded p of)) in
-      never_then demanded (Sized demanded 0 (Then Empty T)) (Later (id_of of) functions)
+      never_then demanded (Sized demanded 0 (Then Empty T)) (Later (id_of of) counts)
       (sized_none demanded (Then Empty T) (has_same (Then Empty T) T (empty_then demanded T) (then_has demanded (OneOf demanded p of) (Times l (OneOf demanded p of)) (one_has of))))
-  frame_same of functions (suc n) (suc l) at.Over y few go =
-      let L : MarkedForm = Later (id_of of) functions in
+  frame_same of counts (suc n) (suc l) at.Over y few go =
+      let L : MarkedForm = Later (id_of of) counts in
       let T : MarkedForm = Times l (OneOf demanded p of) in
       let O : MarkedForm = Then (OneOf demanded p of) T in
       let B : MarkedForm = ComponentRest demanded p (begin_component of) y in
       then_same demanded (Sized demanded (suc n) (Then Empty O)) L (Sized demanded (suc n) (Then B T)) L
       (sized_same demanded (Then Empty O) (Then B T) (suc n) (same_then demanded (Then Empty O) O (Then B T) (empty_then demanded O) (then_same demanded (OneOf demanded p of) T B T (begin_at of y) (same_refl demanded T))))
       (same_refl demanded L)
-  frame_same of functions zero left q y few go =
-      never_then demanded (Sized demanded 0 (Within of left q y)) (Later (id_of of) functions)
+  frame_same of counts zero left q y few go =
+      never_then demanded (Sized demanded 0 (Within of left q y)) (Later (id_of of) counts)
       (sized_none demanded (Within of left q y) (then_has demanded (ComponentRest demanded p q y) (Times left (OneOf demanded p of)) (component_has demanded p 0 q y go)))
-  frame_same of functions (suc n) left q y few go = same_refl demanded (MachineRest (machine.Section of functions n left q) y)
+  frame_same of counts (suc n) left q y few go = same_refl demanded (MachineRest (machine.Section of counts n left q) y)
 
-  in_section : (of : SectionKind) (functions more left : ℕ) (q : InMember) (so_far : List ℕ) (c : ℕ) → c < 2 ^ 8 → Fits p (machine.Section of functions more left q)
-      → Continues (MachineRest (machine.Section of functions more left q) so_far) c (byte_read machine.Refused (zone_in q) so_far c (step_of p (machine.Section of functions more left q) c))
-  in_section of functions more left q so_far c byte fits =
+  in_section : (of : SectionKind) (counts : Counts) (more left : ℕ) (q : InMember) (so_far : List ℕ) (c : ℕ) → c < 2 ^ 8 → Fits p (machine.Section of counts more left q)
+      → Continues (MachineRest (machine.Section of counts more left q) so_far) c (byte_read machine.Refused (zone_in q) so_far c (step_of p (machine.Section of counts more left q) c))
+  in_section of counts more left q so_far c byte fits =
       let P : MarkedForm = ComponentRest demanded p q so_far in
       let T : MarkedForm = Times left (OneOf demanded p of) in
-      let L : MarkedForm = Later (id_of of) functions in
+      let L : MarkedForm = Later (id_of of) counts in
       let F : MarkedForm = Then (Sized demanded (suc more) (Then P T)) L in
       let few : more < 2 ^ 32 = (let l = fits.1 in omega (arith, l)) in
-      lifted at.Failed (ComponentRest demanded p) (machine_in_member of functions more left) (λ w. refl) (MayGo p more) (λ w. tt) P F (zone_in q) so_far c
+      lifted at.Failed (ComponentRest demanded p) (machine_in_member of counts more left) (λ w. refl) (MayGo p more) (λ w. tt) P F (zone_in q) so_far c
       (λ m x y i h.
       let R : MarkedForm = ComponentRest demanded p m y in
-      next_to demanded F (Then (Sized demanded more (Then R T)) L) (MachineRest (machine_in_member of functions more left m) y) c x (frame_same of functions more left m y few i)
+      next_to demanded F (Then (Sized demanded more (Then R T)) L) (MachineRest (machine_in_member of counts more left m) y) c x (frame_same of counts more left m y few i)
       (next_then demanded (Sized demanded (suc more) (Then P T)) L c x (Sized demanded more (Then R T))
       (sized_next demanded (Then P T) (Then R T) more c x (next_then demanded P T c x R h (component_has demanded p (suc more) q so_far fits.2))) (sized_has demanded (Then P T) more)))
       (member_step p q c).0 (member_step p q c).1 (can_go_on p more q c byte fits.2) (component_follows demanded p more q so_far c fits.2 byte)
 
   -- at the count of its members
-  listed_same : (of : SectionKind) (functions more n : ℕ) → more < 2 ^ 32 → Same demanded (Then (Sized demanded more (Times n (OneOf demanded p of))) (Later (id_of of) functions)) (MachineRest (machine_after_count of functions more n) [])
-  listed_same of functions more zero few =
-      let L : MarkedForm = Later (id_of of) functions in
+  listed_same : (of : SectionKind) (counts : Counts) (more n : ℕ) → more < 2 ^ 32 → Same demanded (Then (Sized demanded more (Times n (OneOf demanded p of))) (Later (id_of of) counts)) (MachineRest (machine_after_count of counts more n) [])
+  listed_same of counts more zero few =
+      let L : MarkedForm = Later (id_of of) counts in
       let E : MarkedForm = Then Empty Empty in
-      same_then demanded (Then (Sized demanded more Empty) L) (Then (Sized demanded more E) L) (MachineRest (machine_after_count of functions more zero) [])
+      same_then demanded (Then (Sized demanded more Empty) L) (Then (Sized demanded more E) L) (MachineRest (machine_after_count of counts more zero) [])
       (then_same demanded (Sized demanded more Empty) L (Sized demanded more E) L (sized_same demanded Empty E more (then_empty demanded Empty)) (same_refl demanded L))
-      (frame_same of functions more zero at.Over [] few tt)
-  listed_same of functions more (suc n) few =
-      let L : MarkedForm = Later (id_of of) functions in
+      (frame_same of counts more zero at.Over [] few tt)
+  listed_same of counts more (suc n) few =
+      let L : MarkedForm = Later (id_of of) counts in
       let O : MarkedForm = OneOf demanded p of in
       let B : MarkedForm = ComponentRest demanded p (begin_component of) [] in
       let T : MarkedForm = Times n O in
-      same_then demanded (Then (Sized demanded more (Then O T)) L) (Then (Sized demanded more (Then B T)) L) (MachineRest (machine_after_count of functions more (suc n)) [])
+      same_then demanded (Then (Sized demanded more (Then O T)) L) (Then (Sized demanded more (Then B T)) L) (MachineRest (machine_after_count of counts more (suc n)) [])
       (then_same demanded (Sized demanded more (Then O T)) L (Sized demanded more (Then B T)) L (sized_same demanded (Then O T) (Then B T) more (then_same demanded O T B T (begin_same demanded p of) (same_refl demanded T))) (same_refl demanded L))
-      (frame_same of functions more n (begin_component of) [] few (may_begin p more few of))
+      (frame_same of counts more n (begin_component of) [] few (may_begin p more few of))
 
-  abbrev Read : SectionKind → (functions more v : ℕ) → MarkedForm
-  Read of functions more v = ForSome (KnownIn (id_of of) functions) (λ f. Then (Sized demanded more (ListOf of f v)) (After of f))
+  abbrev Read : SectionKind → (counts : Counts) (more v : ℕ) → MarkedForm
+  Read of counts more v = ForSome (KnownIn (id_of of) counts) (λ f. Then (Sized demanded more (ListOf of f v)) (After of f))
 
-  abbrev AllOf : SectionKind → (functions more v : ℕ) → MarkedForm
-  AllOf of functions more v = Then (Sized demanded more (Times v (OneOf demanded p of))) (Later (id_of of) functions)
+  abbrev AllOf : SectionKind → (counts : Counts) (more v : ℕ) → MarkedForm
+  AllOf of counts more v = Then (Sized demanded more (Times v (OneOf demanded p of))) (Later (id_of of) counts)
 
-  counted_as : (of : SectionKind) (functions more v : ℕ) → more < 2 ^ 32 → Same demanded (Read of functions more v) (MachineRest (machine_after_paired_count of functions more v) [])
-  counted_as section_kind.Function functions more v few =
-      same_then demanded (Read section_kind.Function functions more v) (AllOf section_kind.Function v more v) (MachineRest (machine_after_count section_kind.Function v more v) [])
-      (function_read functions more v) (listed_same section_kind.Function v more v few)
-  counted_as section_kind.Code functions more v few =
-      cond_both (nat_eq v functions) _ _ (λ (m : Machine). Same demanded (Read section_kind.Code functions more v) (MachineRest m []))
-      (λ a. same_then demanded (Read section_kind.Code functions more v) (AllOf section_kind.Code 0 more v) (MachineRest (machine_after_count section_kind.Code 0 more v) [])
-      (code_read functions more v (eqb-true v functions a)) (listed_same section_kind.Code 0 more v few))
-      (λ a. code_other functions more v (eqb-false v functions a))
-  counted_as of functions more v few =
-      same_then demanded (Read of functions more v) (AllOf of functions more v) (MachineRest (machine_after_count of functions more v) [])
-      (list_read of functions more v (λ e. omega (arith, e))) (listed_same of functions more v few)
+  counted_as : (of : SectionKind) (counts : Counts) (more v : ℕ) → more < 2 ^ 32 → Same demanded (Read of counts more v) (MachineRest (machine_after_paired_count of counts more v) [])
+  counted_as section_kind.Function counts more v few =
+      same_then demanded (Read section_kind.Function counts more v) (AllOf section_kind.Function (counts_in section_kind.Function counts v) more v) (MachineRest (machine_after_count section_kind.Function (counts_in section_kind.Function counts v) more v) [])
+      (function_read counts more v) (listed_same section_kind.Function (counts_in section_kind.Function counts v) more v few)
+  counted_as section_kind.Code counts more v few =
+      cond_both (nat_eq v counts.functions) _ _ (λ (m : Machine). Same demanded (Read section_kind.Code counts more v) (MachineRest m []))
+      (λ a. same_then demanded (Read section_kind.Code counts more v) (AllOf section_kind.Code (counts_in section_kind.Code counts v) more v) (MachineRest (machine_after_count section_kind.Code (counts_in section_kind.Code counts v) more v) [])
+      (code_read counts more v (eqb-true v counts.functions a)) (listed_same section_kind.Code (counts_in section_kind.Code counts v) more v few))
+      (λ a. code_other counts more v (eqb-false v counts.functions a))
+  counted_as of counts more v few =
+      same_then demanded (Read of counts more v) (AllOf of (counts_in of counts v) more v) (MachineRest (machine_after_count of (counts_in of counts v) more v) [])
+      (list_read of counts more v (λ e. omega (arith, e))) (listed_same of (counts_in of counts v) more v few)
 
-  module _ (of : SectionKind) (functions more : ℕ) (r : Partial) (so_far : List ℕ) (c : ℕ) where
+  module _ (of : SectionKind) (counts : Counts) (more : ℕ) (r : Partial) (so_far : List ℕ) (c : ℕ) where
     abbrev AtCount : MarkedForm
-    AtCount = MachineRest (machine.Count of functions more r) so_far
+    AtCount = MachineRest (machine.Count of counts more r) so_far
 
-    count_next : (X : ℕ → MarkedForm) → ((f : ℕ) → Next demanded (Listed of r f) c (outside_mark None) (X f)) → Next demanded AtCount c (outside_mark None) (ForSome (KnownIn (id_of of) functions) (λ f. Then (Sized demanded more (X f)) (After of f)))
+    count_next : (X : ℕ → MarkedForm) → ((f : ℕ) → Next demanded (Listed of r f) c (outside_mark None) (X f)) → Next demanded AtCount c (outside_mark None) (ForSome (KnownIn (id_of of) counts) (λ f. Then (Sized demanded more (X f)) (After of f)))
     count_next X h =
-        some_next demanded (KnownIn (id_of of) functions) (λ f. Then (Sized demanded (suc more) (Listed of r f)) (After of f)) (λ f. Then (Sized demanded more (X f)) (After of f)) c (outside_mark None)
+        some_next demanded (KnownIn (id_of of) counts) (λ f. Then (Sized demanded (suc more) (Listed of r f)) (After of f)) (λ f. Then (Sized demanded more (X f)) (After of f)) c (outside_mark None)
         (λ f. next_then demanded (Sized demanded (suc more) (Listed of r f)) (After of f) c (outside_mark None) (Sized demanded more (X f)) (sized_next demanded (Listed of r f) (X f) more c (outside_mark None) (h f)) (sized_has demanded (Listed of r f) more))
 
     count_ends : (X : ℕ → MarkedForm) → ((f : ℕ) → Next demanded (Listed of r f) c (outside_mark None) (X f)) → ((f : ℕ) → Same demanded (Sized demanded more (X f)) Never) → Next demanded AtCount c (outside_mark None) Never
     count_ends X h never =
-        next_to demanded AtCount (ForSome (KnownIn (id_of of) functions) (λ f. Then (Sized demanded more (X f)) (After of f))) Never c (outside_mark None)
-        (some_never demanded (KnownIn (id_of of) functions) (λ f. Then (Sized demanded more (X f)) (After of f)) (λ f k. never_then demanded (Sized demanded more (X f)) (After of f) (never f)))
+        next_to demanded AtCount (ForSome (KnownIn (id_of of) counts) (λ f. Then (Sized demanded more (X f)) (After of f))) Never c (outside_mark None)
+        (some_never demanded (KnownIn (id_of of) counts) (λ f. Then (Sized demanded more (X f)) (After of f)) (λ f k. never_then demanded (Sized demanded more (X f)) (After of f) (never f)))
         (count_next X h)
 
-  counts : (of : SectionKind) (functions more : ℕ) (r : Partial) (so_far : List ℕ) (c : ℕ) (q : Step ℕ × Partial) → suc more < 2 ^ 32 → ((f : ℕ) → CountedNext demanded nothing_at (ListOf of f) r c q)
-      → Continues (AtCount of functions more r so_far c) c (listens so_far c (after_count of functions more q))
-  counts of functions zero r so_far c (More, s) few h = count_ends of functions 0 r so_far c (Listed of s) h (λ f. sized_none demanded (Listed of s f) (counted_has demanded nothing_at (ListOf of f) s))
-  counts of functions (suc n) r so_far c (More, s) few h = count_next of functions (suc n) r so_far c (Listed of s) h
-  counts of functions more r so_far c (Done v, s) few h =
-      next_to demanded (AtCount of functions more r so_far c) (Read of functions more v) (MachineRest (machine_after_paired_count of functions more v) []) c (outside_mark None) (counted_as of functions more v (omega (arith, few)))
-      (count_next of functions more r so_far c (λ f. ListOf of f v) h)
-  counts of functions more r so_far c (Bad, s) few h = count_ends of functions more r so_far c (λ f. Never) h (λ f. sized_never demanded more)
+  count_follows : (of : SectionKind) (counts : Counts) (more : ℕ) (r : Partial) (so_far : List ℕ) (c : ℕ) (q : Step ℕ × Partial) → suc more < 2 ^ 32 → ((f : ℕ) → CountedNext demanded nothing_at (ListOf of f) r c q)
+      → Continues (AtCount of counts more r so_far c) c (listens so_far c (after_count of counts more q))
+  count_follows of counts zero r so_far c (More, s) few h = count_ends of counts 0 r so_far c (Listed of s) h (λ f. sized_none demanded (Listed of s f) (counted_has demanded nothing_at (ListOf of f) s))
+  count_follows of counts (suc n) r so_far c (More, s) few h = count_next of counts (suc n) r so_far c (Listed of s) h
+  count_follows of counts more r so_far c (Done v, s) few h =
+      next_to demanded (AtCount of counts more r so_far c) (Read of counts more v) (MachineRest (machine_after_paired_count of counts more v) []) c (outside_mark None) (counted_as of counts more v (omega (arith, few)))
+      (count_next of counts more r so_far c (λ f. ListOf of f v) h)
+  count_follows of counts more r so_far c (Bad, s) few h = count_ends of counts more r so_far c (λ f. Never) h (λ f. sized_never demanded more)
 
   -- at its size
   contents_has : (of : SectionKind) (f : ℕ) → HasBytes demanded (Contents demanded p f (id_of of))
   contents_has section_kind.Start f = one_has section_kind.Start
   contents_has of f = has_same (Contents demanded p f (id_of of)) (Listed of fresh f) (contents_same of f) (counted_has demanded nothing_at (ListOf of f) fresh)
 
-  size_same : (of : SectionKind) (functions n : ℕ) → Same demanded (ForSome (KnownIn (id_of of) functions) (λ f. InSize of f n)) (MachineRest (after_size of functions n) [])
-  size_same of functions zero =
-      some_never demanded (KnownIn (id_of of) functions) (λ f. InSize of f 0) (λ f k.
+  size_same : (of : SectionKind) (counts : Counts) (n : ℕ) → Same demanded (ForSome (KnownIn (id_of of) counts) (λ f. InSize of f n)) (MachineRest (after_size of counts n) [])
+  size_same of counts zero =
+      some_never demanded (KnownIn (id_of of) counts) (λ f. InSize of f 0) (λ f k.
       never_then demanded (Sized demanded 0 (Contents demanded p f (id_of of))) (After of f) (sized_none demanded (Contents demanded p f (id_of of)) (contents_has of f)))
-  size_same section_kind.Start functions (suc n) =
+  size_same section_kind.Start counts (suc n) =
       let O : MarkedForm = OneOf demanded p section_kind.Start in
       let B : MarkedForm = ComponentRest demanded p (begin_component section_kind.Start) [] in
-      let C : ℕ → Type 0 = KnownIn 8 functions in
-      let D : ℕ → Type 0 = Known 8 functions in
+      let C : ℕ → Type 0 = KnownIn 8 counts in
+      let D : ℕ → Type 0 = Known 8 counts in
       let Q : ℕ → MarkedForm = After section_kind.Start in
       same_then demanded (ForSome C (λ f. Then (Sized demanded (suc n) O) (Q f))) (Then (Sized demanded (suc n) O) (ForSome C Q)) (Then (Sized demanded (suc n) (Then B Empty)) (ForSome D Q))
       (some_then demanded C (Sized demanded (suc n) O) Q)
       (then_same demanded (Sized demanded (suc n) O) (ForSome C Q) (Sized demanded (suc n) (Then B Empty)) (ForSome D Q)
       (sized_same demanded O (Then B Empty) (suc n) (same_then demanded O B (Then B Empty) (begin_same demanded p section_kind.Start) (then_empty demanded B)))
       (some_known demanded C D Q (λ f k l. k (omega arith)) (λ f k l. k (omega arith))))
-  size_same of functions (suc n) =
-      some_same demanded (KnownIn (id_of of) functions) (λ f. InSize of f (suc n)) (λ f. Then (Sized demanded (suc n) (Listed of fresh f)) (After of f)) (λ f.
+  size_same of counts (suc n) =
+      some_same demanded (KnownIn (id_of of) counts) (λ f. InSize of f (suc n)) (λ f. Then (Sized demanded (suc n) (Listed of fresh f)) (After of f)) (λ f.
       then_same demanded (Sized demanded (suc n) (Contents demanded p f (id_of of))) (After of f) (Sized demanded (suc n) (Listed of fresh f)) (After of f)
       (sized_same demanded (Contents demanded p f (id_of of)) (Listed of fresh f) (suc n) (contents_same of f)) (same_refl demanded (After of f)))
 
-  abbrev AtSize : SectionKind → ℕ → Partial → MarkedForm
-  AtSize of functions r = ForSome (KnownIn (id_of of) functions) (λ f. Counted (Left r) nothing_at (InSize of f))
+  abbrev AtSize : SectionKind → Counts → Partial → MarkedForm
+  AtSize of counts r = ForSome (KnownIn (id_of of) counts) (λ f. Counted (Left r) nothing_at (InSize of f))
 
-  sizes : (of : SectionKind) (functions : ℕ) (r : Partial) (so_far : List ℕ) (c : ℕ) (q : Step ℕ × Partial) → ((f : ℕ) → CountedNext demanded nothing_at (InSize of f) r c q)
-      → Continues (AtSize of functions r) c (listens so_far c (on_number q (λ s. machine.Size of functions s) (λ n. (after_size of functions n, event.Nothing)) machine.Refused))
-  sizes of functions r so_far c (More, s) h =
-      some_next demanded (KnownIn (id_of of) functions) (λ f. Counted (Left r) nothing_at (InSize of f)) (λ f. Counted (Left s) nothing_at (InSize of f)) c (outside_mark None) h
-  sizes of functions r so_far c (Done v, s) h =
-      next_to demanded (AtSize of functions r) (ForSome (KnownIn (id_of of) functions) (λ f. InSize of f v)) (MachineRest (after_size of functions v) []) c (outside_mark None) (size_same of functions v)
-      (some_next demanded (KnownIn (id_of of) functions) (λ f. Counted (Left r) nothing_at (InSize of f)) (λ f. InSize of f v) c (outside_mark None) h)
-  sizes of functions r so_far c (Bad, s) h = some_none demanded (KnownIn (id_of of) functions) (λ f. Counted (Left r) nothing_at (InSize of f)) c (outside_mark None) h
+  sizes : (of : SectionKind) (counts : Counts) (r : Partial) (so_far : List ℕ) (c : ℕ) (q : Step ℕ × Partial) → ((f : ℕ) → CountedNext demanded nothing_at (InSize of f) r c q)
+      → Continues (AtSize of counts r) c (listens so_far c (on_number q (λ s. machine.Size of counts s) (λ n. (after_size of counts n, event.Nothing)) machine.Refused))
+  sizes of counts r so_far c (More, s) h =
+      some_next demanded (KnownIn (id_of of) counts) (λ f. Counted (Left r) nothing_at (InSize of f)) (λ f. Counted (Left s) nothing_at (InSize of f)) c (outside_mark None) h
+  sizes of counts r so_far c (Done v, s) h =
+      next_to demanded (AtSize of counts r) (ForSome (KnownIn (id_of of) counts) (λ f. InSize of f v)) (MachineRest (after_size of counts v) []) c (outside_mark None) (size_same of counts v)
+      (some_next demanded (KnownIn (id_of of) counts) (λ f. Counted (Left r) nothing_at (InSize of f)) (λ f. InSize of f v) c (outside_mark None) h)
+  sizes of counts r so_far c (Bad, s) h = some_none demanded (KnownIn (id_of of) counts) (λ f. Counted (Left r) nothing_at (InSize of f)) c (outside_mark None) h
 
   -- each byte goes on with what may still come
   pub machine_follows : (m : Machine) (so_far : List ℕ) (c : ℕ) → c < 2 ^ 8 → Fits p m → Continues (MachineRest m so_far) c (byte_read machine.Refused (zone_of m) so_far c (step_of p m c))
   machine_follows (machine.Header n) so_far c byte fits = in_header n so_far c
-  machine_follows (machine.Between last functions) so_far c byte fits = between last functions so_far c fits
-  machine_follows (machine.CustomSize last functions r) so_far c byte fits = custom_sizes last functions r so_far c (unsigned_push 32 r c) (counted_next demanded nothing_at (InCustoms last functions) r c byte)
-  machine_follows (machine.Custom last functions more q) so_far c byte fits = in_custom last functions more q so_far c byte
-  machine_follows (machine.Size of functions r) so_far c byte fits = sizes of functions r so_far c (unsigned_push 32 r c) (λ f. counted_next demanded nothing_at (InSize of f) r c byte)
-  machine_follows (machine.Count of functions more r) so_far c byte fits = counts of functions more r so_far c (unsigned_push 32 r c) fits.2 (λ f. counted_next demanded nothing_at (ListOf of f) r c byte)
-  machine_follows (machine.Section of functions more left q) so_far c byte fits = in_section of functions more left q so_far c byte fits
+  machine_follows (machine.Between last counts) so_far c byte fits = between last counts so_far c fits
+  machine_follows (machine.CustomSize last counts r) so_far c byte fits = custom_sizes last counts r so_far c (unsigned_push 32 r c) (counted_next demanded nothing_at (InCustoms last counts) r c byte)
+  machine_follows (machine.Custom last counts more q) so_far c byte fits = in_custom last counts more q so_far c byte
+  machine_follows (machine.Size of counts r) so_far c byte fits = sizes of counts r so_far c (unsigned_push 32 r c) (λ f. counted_next demanded nothing_at (InSize of f) r c byte)
+  machine_follows (machine.Count of counts more r) so_far c byte fits = count_follows of counts more r so_far c (unsigned_push 32 r c) fits.2 (λ f. counted_next demanded nothing_at (ListOf of f) r c byte)
+  machine_follows (machine.Section of counts more left q) so_far c byte fits = in_section of counts more left q so_far c byte fits
   machine_follows (machine.Refused w) so_far c byte fits = next_never demanded Never c (outside_mark None) (λ s b k h. h)
 
   pub ends : demanded → (m : Machine) (so_far : List ℕ) (k : Marks) → Fits p m → MachineRest m so_far [] k → (k ≡ []) × MayEnd m
   ends s (machine.Header n) so_far k fits h = absurd (in_header_has n s k h)
-  ends s (machine.Between last functions) so_far k fits h =
+  ends s (machine.Between last counts) so_far k fits h =
       let r = over_missing demanded p h.0 (11 - last) (suc last) k h.2 in
-      (r.0, is_end last functions (end_known last functions fits h.0 h.1 r.1))
-  ends s (machine.CustomSize last functions r) so_far k fits h = absurd (counted_has demanded nothing_at (InCustoms last functions) r s k h)
-  ends s (machine.Custom last functions more q) so_far k fits h = absurd (then_has demanded (CustomRest demanded (suc more) q so_far) (Later last functions) (custom_has demanded more q so_far) s k h)
-  ends s (machine.Size of functions r) so_far k fits h = absurd (counted_has demanded nothing_at (InSize of h.0) r s k h.2)
-  ends s (machine.Count of functions more r) so_far k fits h = absurd (then_has demanded (Sized demanded (suc more) (Listed of r h.0)) (After of h.0) (sized_has demanded (Listed of r h.0) more) s k h.2)
-  ends s (machine.Section of functions more left q) so_far k fits h = absurd (then_has demanded (Sized demanded (suc more) (Within of left q so_far)) (Later (id_of of) functions) (sized_has demanded (Within of left q so_far) more) s k h)
+      (r.0, is_end last counts (end_known last counts fits h.0 h.1 r.1))
+  ends s (machine.CustomSize last counts r) so_far k fits h = absurd (counted_has demanded nothing_at (InCustoms last counts) r s k h)
+  ends s (machine.Custom last counts more q) so_far k fits h = absurd (then_has demanded (CustomRest demanded (suc more) q so_far) (Later last counts) (custom_has demanded more q so_far) s k h)
+  ends s (machine.Size of counts r) so_far k fits h = absurd (counted_has demanded nothing_at (InSize of h.0) r s k h.2)
+  ends s (machine.Count of counts more r) so_far k fits h = absurd (then_has demanded (Sized demanded (suc more) (Listed of r h.0)) (After of h.0) (sized_has demanded (Listed of r h.0) more) s k h.2)
+  ends s (machine.Section of counts more left q) so_far k fits h = absurd (then_has demanded (Sized demanded (suc more) (Within of left q so_far)) (Later (id_of of) counts) (sized_has demanded (Within of left q so_far) more) s k h)
   ends s (machine.Refused w) so_far k fits h = absurd h
 
   -- what a module that begins with these bytes is after them

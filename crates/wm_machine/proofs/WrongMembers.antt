@@ -16,6 +16,7 @@ use Rattle.wm_syntax.specs.declared.types.ValType.{ValType}
 use Rattle.wm_syntax.specs.declared.instructions.Op.{Op}
 use Rattle.wm_syntax.specs.declared.instructions.Op.TheVariants as op
 use Rattle.wm_machine.specs.declared.machine.NameKind.{NameKind}
+use Rattle.wm_machine.specs.declared.machine.Counts.{Counts}
 use Rattle.wm_machine.specs.declared.machine.InCustom.{InCustom}
 use Rattle.wm_machine.specs.declared.machine.InCustom.TheVariants as custom
 use Rattle.wm_machine.specs.declared.machine.Machine.{Machine}
@@ -73,15 +74,15 @@ use Rattle.wm_machine.proofs.CodesAtHand.{CodeExpression, CodeEntry, CodeMember,
 use Rattle.wm_machine.proofs.WrongBytes.{Says, says_map, as_named, type_says, At, run_says, value_says, global_says, op_says, none_begins, no_type_begins}
 
 -- what must stand in a member must stand in its section
-pub section_begins : (p : Profile) (W : Form ℕ) (of : SectionKind) (functions more left : ℕ) (q : InMember) (y : List ℕ) → PartsBegin W (ComponentRest loose p q y) (ComponentRest strict p q y)
-    → PartsBegin W (MachineRest loose p (machine.Section of functions more left q) y) (MachineRest strict p (machine.Section of functions more left q) y)
-section_begins p W of functions more left q y v =
+pub section_begins : (p : Profile) (W : Form ℕ) (of : SectionKind) (counts : Counts) (more left : ℕ) (q : InMember) (y : List ℕ) → PartsBegin W (ComponentRest loose p q y) (ComponentRest strict p q y)
+    → PartsBegin W (MachineRest loose p (machine.Section of counts more left q) y) (MachineRest strict p (machine.Section of counts more left q) y)
+section_begins p W of counts more left q y v =
     let Q : Type 0 → MarkedForm = λ d. Times left (OneOf d p of) in
     let t : Comes (Q loose) = some_times left (OneOf loose p of) (some_one p of) in
     let L : MarkedForm = Within loose p of left q y in
     let S : MarkedForm = Within strict p of left q y in
-    then_begins W (Sized loose (suc more) L) (Sized strict (suc more) S) (Later loose p (id_of of) functions) (Later strict p (id_of of) functions)
-    (sized_begins W (suc more) L S (then_begins W (ComponentRest loose p q y) (ComponentRest strict p q y) (Q loose) (Q strict) v t)) (some_later p (id_of of) functions)
+    then_begins W (Sized loose (suc more) L) (Sized strict (suc more) S) (Later loose p (id_of of) counts) (Later strict p (id_of of) counts)
+    (sized_begins W (suc more) L S (then_begins W (ComponentRest loose p q y) (ComponentRest strict p q y) (Q loose) (Q strict) v t)) (some_later p (id_of of) counts)
 
 -- there are such things, and none begins with the byte
 pub record NoneBegins (p : Profile) (c : ℕ) (x : Wanted) : Type 0 where
@@ -317,9 +318,9 @@ module _ (p : Profile) (b : List ℕ) (c : ℕ) (byte : c < 2 ^ 8) where
   abbrev pub InMachine : Machine → List ℕ → Wanted → Type 0
   InMachine m y = Here p c (MachineRest loose p m y) (MachineRest strict p m y)
 
-  section_says : (of : SectionKind) (functions more left : ℕ) (q : InMember) (y : List ℕ) → SoundMember p (suc more) q → CodeMember q b → (w : Why) → (member_step p q c).0 ≡ at.Failed w → Says b (InMachine (machine.Section of functions more left q) y) c w
-  section_says of functions more left q y sound code w e =
-      says_map b (InMembers q y) (InMachine (machine.Section of functions more left q) y) c (λ x h. (section_begins p (spelled p x) of functions more left q y h.0, h.1)) w (member_says (suc more) q y sound code w e)
+  section_says : (of : SectionKind) (counts : Counts) (more left : ℕ) (q : InMember) (y : List ℕ) → SoundMember p (suc more) q → CodeMember q b → (w : Why) → (member_step p q c).0 ≡ at.Failed w → Says b (InMachine (machine.Section of counts more left q) y) c w
+  section_says of counts more left q y sound code w e =
+      says_map b (InMembers q y) (InMachine (machine.Section of counts more left q) y) c (λ x h. (section_begins p (spelled p x) of counts more left q y h.0, h.1)) w (member_says (suc more) q y sound code w e)
 
 -- elsewhere it is refused by other names
 custom_says : (S : Why → Type 0) → S why.BadNumber → S why.SectionEnd → (c : ℕ) (q : InCustom) (w : Why) → (custom_step q c).0 ≡ custom.Failed w → S w
@@ -401,7 +402,7 @@ module _ (p : Profile) (b : List ℕ) (bytes : AreBytes b) where
       step_at (ByName S) (lives S) (by_name S why.SectionEnd tt) (by_name S why.BadNumber tt) (by_name S why.SectionId tt) (by_name S why.SectionOrder tt) (by_name S why.CodeCount tt) p m c
       (λ i. i) (λ w e. absurd (live (subst IsRefused (sym e) tt)))
       (λ q w e. by_name S w (custom_says S tt tt c q w e))
-      (λ of functions more left q w i e. by_name S w
-      (says_map b (InMachine p b c byte (machine.Section of functions more left q) Now.name) (InInput c) c
+      (λ of counts more left q w i e. by_name S w
+      (says_map b (InMachine p b c byte (machine.Section of counts more left q) Now.name) (InInput c) c
       (λ x h. (must_stand (spelled p x) (subst (λ z. PartsBegin (spelled p x) (MachineRest loose p z Now.name) (MachineRest strict p z Now.name)) (sym i ∙ is) h.0), h.1)) w
-      (section_says p b c byte of functions more left q Now.name (let f = subst (Fits p) i fits in f.2.1) (subst (λ z. CodeMachine z b) (sym is ∙ i) (run_code p state_at_start [] b tt)) w e)))
+      (section_says p b c byte of counts more left q Now.name (let f = subst (Fits p) i fits in f.2.1) (subst (λ z. CodeMachine z b) (sym is ∙ i) (run_code p state_at_start [] b tt)) w e)))

@@ -125,22 +125,38 @@ SegmentForm p = Then (Index segment) (Then (Expression p const_op) (Vector DataB
 abbrev pub Paired : Type 0 → ℕ → MarkedForm → MarkedForm
 Paired demanded f P = MarkedNumber nothing_at (λ n b k. (demanded → n ≡ f) × Times n P b k)
 
--- The contents of the section with this id, from 1 to 11; no other id has any. Under `strict` there are f functions and
--- f code entries. Core spec 5.5.4 to 5.5.14.
+-- A member of the section with this id, from 1 to 11; no other id has any. The start function is the one member of its
+-- section. Core spec 5.5.4 to 5.5.14.
+abbrev pub Member : Type 0 → Profile → (id : ℕ) → MarkedForm
+Member demanded p (suc zero) = FunctionType p
+Member demanded p (suc (suc zero)) = ImportForm demanded p
+Member demanded p (suc (suc (suc zero))) = Index function
+Member demanded p (suc (suc (suc (suc zero)))) = Leaf SpellsTableType table
+Member demanded p (suc (suc (suc (suc (suc zero))))) = Leaf SpellsLimits memory
+Member demanded p (suc (suc (suc (suc (suc (suc zero)))))) = Global p
+Member demanded p (suc (suc (suc (suc (suc (suc (suc zero))))))) = ExportForm demanded
+Member demanded p (suc (suc (suc (suc (suc (suc (suc (suc zero)))))))) = Index start
+Member demanded p (suc (suc (suc (suc (suc (suc (suc (suc (suc zero))))))))) = ElementForm p
+Member demanded p (suc (suc (suc (suc (suc (suc (suc (suc (suc (suc zero)))))))))) = Code demanded p
+Member demanded p (suc (suc (suc (suc (suc (suc (suc (suc (suc (suc (suc zero))))))))))) = SegmentForm p
+Member demanded p _ = λ b k. ⊥
+
+-- The contents of the section with this id: the number of its members, and then these. There is no number before the
+-- start function. Under `strict` there are f functions and f code entries. Core spec 5.5.4 to 5.5.14.
 abbrev pub Contents : Type 0 → Profile → (f id : ℕ) → MarkedForm
-Contents demanded p f (suc zero) = Vector (FunctionType p)
-Contents demanded p f (suc (suc zero)) = Vector (ImportForm demanded p)
-Contents demanded p f (suc (suc (suc zero))) = Paired demanded f (Index function)
-Contents demanded p f (suc (suc (suc (suc zero)))) = Vector (Leaf SpellsTableType table)
-Contents demanded p f (suc (suc (suc (suc (suc zero))))) = Vector (Leaf SpellsLimits memory)
-Contents demanded p f (suc (suc (suc (suc (suc (suc zero)))))) = Vector (Global p)
-Contents demanded p f (suc (suc (suc (suc (suc (suc (suc zero))))))) = Vector (ExportForm demanded)
-Contents demanded p f (suc (suc (suc (suc (suc (suc (suc (suc zero)))))))) = Index start
-Contents demanded p f (suc (suc (suc (suc (suc (suc (suc (suc (suc zero))))))))) = Vector (ElementForm p)
+Contents demanded p f (suc zero) = Vector (Member demanded p 1)
+Contents demanded p f (suc (suc zero)) = Vector (Member demanded p 2)
+Contents demanded p f (suc (suc (suc zero))) = Paired demanded f (Member demanded p 3)
+Contents demanded p f (suc (suc (suc (suc zero)))) = Vector (Member demanded p 4)
+Contents demanded p f (suc (suc (suc (suc (suc zero))))) = Vector (Member demanded p 5)
+Contents demanded p f (suc (suc (suc (suc (suc (suc zero)))))) = Vector (Member demanded p 6)
+Contents demanded p f (suc (suc (suc (suc (suc (suc (suc zero))))))) = Vector (Member demanded p 7)
+Contents demanded p f (suc (suc (suc (suc (suc (suc (suc (suc zero)))))))) = Member demanded p 8
+Contents demanded p f (suc (suc (suc (suc (suc (suc (suc (suc (suc zero))))))))) = Vector (Member demanded p 9)
 Contents demanded p f (suc (suc (suc (suc (suc (suc (suc (suc (suc (suc zero)))))))))) =
-    Paired demanded f (Code demanded p)
+    Paired demanded f (Member demanded p 10)
 Contents demanded p f (suc (suc (suc (suc (suc (suc (suc (suc (suc (suc (suc zero))))))))))) =
-    Vector (SegmentForm p)
+    Vector (Member demanded p 11)
 Contents demanded p f _ = λ b k. ⊥
 
 -- a section: its id, its size n, and contents, under `strict` of n bytes (Core spec 5.5.2)

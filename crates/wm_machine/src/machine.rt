@@ -3,6 +3,7 @@
 ghost use Rattle.std.specs.Prelude.{◌≡◌, ◌∷◌, []};
 ghost use Rattle.wm_machine.specs.Sinks.{items_for};
 ghost use Rattle.wm_machine.specs.exact.Runs.{plain_item};
+ghost use Rattle.wm_machine.specs.exact.Steps.{counts_in, no_counts};
 ghost use Rattle.wm_machine.specs.exact.Live.{refusal_in_machine};
 
 use crate::item::Item;
@@ -100,11 +101,47 @@ pub enum InCustom {
     Failed(Why),
 }
 
+/// The counts that a machine retains of the sections so far.
+#[derive(Clone, Copy)]
+pub struct Counts {
+    /// The number of functions declared, until the count of the code section is read; then 0.
+    pub functions: u32,
+    /// The member count of the last section whose count was read, or 1 after the size of the start section. 0 before
+    /// the first.
+    pub members: u32,
+}
+
+impl Counts {
+    /// Returns the counts before the first section.
+    #[inline(always)]
+    pub fn none() -> Counts
+        ensures { result ≡ no_counts }
+    {
+        Counts {
+            functions: 0,
+            members: 0,
+        }
+    }
+
+    /// Returns the counts in a section with this number of members.
+    #[inline(always)]
+    pub fn in_section(self, of: SectionKind, members: u32) -> Counts
+        ensures { result ≡ counts_in of self members }
+    {
+        let functions = match of {
+            SectionKind::Function => members,
+            SectionKind::Code => 0,
+            _ => self.functions,
+        };
+        Counts { functions, members }
+    }
+}
+
 /// The state of the decoder state machine between two bytes. It holds all that is retained of the bytes so far, except
 /// the bytes of a name that is split across pieces.
 ///
-/// `last` is the id of the last section that was not custom, or 0. `functions` is the number of functions declared,
-/// until the count of the code section is read. `more` is the number of bytes of the section after the next byte.
+/// `last` is the id of the last section that was not custom, or 0. `more` is the number of bytes of the section after
+/// the next byte.
 #[derive(Clone, Copy)]
 pub enum Machine {
     /// Inside the header, after this many bytes of it.
@@ -112,37 +149,37 @@ pub enum Machine {
     /// Before the id of a section.
     Between {
         last: u8,
-        functions: u32,
+        counts: Counts,
     },
     /// Inside the size of a custom section.
     CustomSize {
         last: u8,
-        functions: u32,
+        counts: Counts,
         number: Num32,
     },
     Custom {
         last: u8,
-        functions: u32,
+        counts: Counts,
         more: u32,
         part: InCustom,
     },
     /// Inside the size of any other section.
     Size {
         of: SectionKind,
-        functions: u32,
+        counts: Counts,
         number: Num32,
     },
     /// Inside the member count of the section.
     Count {
         of: SectionKind,
-        functions: u32,
+        counts: Counts,
         more: u32,
         number: Num32,
     },
     /// Inside a member of the section; `left` members follow it.
     Section {
         of: SectionKind,
-        functions: u32,
+        counts: Counts,
         more: u32,
         left: u32,
         at: InMember,

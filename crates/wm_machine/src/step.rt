@@ -8,7 +8,7 @@ ghost use Rattle.wm_machine.specs.exact.Steps.{count_step, after_size, size_step
 ghost use Rattle.wm_machine.specs.exact.Steps.{custom_size_step, header_step, step_of};
 
 use crate::machine::member::{InMember, SectionKind};
-use crate::machine::{Event, InCustom, Machine, NameKind};
+use crate::machine::{Counts, Event, InCustom, Machine, NameKind};
 use crate::step::members::{begin, member_byte};
 use wm_syntax::numbers::{Num32, Step};
 use wm_syntax::profile::Profile;
@@ -67,18 +67,18 @@ fn refused(why: Why) -> (Machine, Event)
 }
 
 // Returns the state with `left` bytes of a custom section still to come
-fn custom_framed(last: u8, functions: u32, left: u32, part: InCustom) -> Machine
-    ensures { result ≡ machine_in_custom last functions left part }
+fn custom_framed(last: u8, counts: Counts, left: u32, part: InCustom) -> Machine
+    ensures { result ≡ machine_in_custom last counts left part }
 {
     match part {
         InCustom::Failed(why) => Machine::Refused(why),
-        InCustom::Skip if left == 0 => Machine::Between { last, functions },
+        InCustom::Skip if left == 0 => Machine::Between { last, counts },
         _ if left == 0 => Machine::Refused(Why::SectionEnd),
         _ => {
             let more = left - 1;
             Machine::Custom {
                 last,
-                functions,
+                counts,
                 more,
                 part,
             }
@@ -88,14 +88,14 @@ fn custom_framed(last: u8, functions: u32, left: u32, part: InCustom) -> Machine
 
 /// Returns the state inside a member, with `bytes` bytes of the section and `left` further members to come. Refuses
 /// with `SectionEnd` if the members are longer or shorter than the section's size.
-pub fn framed(of: SectionKind, functions: u32, bytes: u32, left: u32, at: InMember) -> Machine
-    ensures { result ≡ machine_in_member of functions bytes left at }
+pub fn framed(of: SectionKind, counts: Counts, bytes: u32, left: u32, at: InMember) -> Machine
+    ensures { result ≡ machine_in_member of counts bytes left at }
 {
     let (left, at) = match at {
         InMember::Failed(why) => return Machine::Refused(why),
         InMember::Over if left == 0 && bytes == 0 => {
             let last = of.id();
-            return Machine::Between { last, functions };
+            return Machine::Between { last, counts };
         }
         InMember::Over if left == 0 => return Machine::Refused(Why::SectionEnd),
         InMember::Over => (left - 1, begin(of)),
@@ -107,7 +107,7 @@ pub fn framed(of: SectionKind, functions: u32, bytes: u32, left: u32, at: InMemb
     let more = bytes - 1;
     Machine::Section {
         of,
-        functions,
+        counts,
         more,
         left,
         at,
@@ -115,37 +115,35 @@ pub fn framed(of: SectionKind, functions: u32, bytes: u32, left: u32, at: InMemb
 }
 
 // Returns the state after the member count of a section
-fn listed(of: SectionKind, functions: u32, bytes: u32, count: u32) -> Machine
-    ensures { result ≡ machine_after_count of functions bytes count }
+fn listed(of: SectionKind, counts: Counts, bytes: u32, count: u32) -> Machine
+    ensures { result ≡ machine_after_count of counts bytes count }
 {
     if count == 0 {
-        framed(of, functions, bytes, 0, InMember::Over)
+        framed(of, counts, bytes, 0, InMember::Over)
     } else {
-        framed(of, functions, bytes, count - 1, begin(of))
+        framed(of, counts, bytes, count - 1, begin(of))
     }
 }
 
 /// Returns the state after the member count of a section, and keeps the count of the function section. Refuses with
 /// `CodeCount` if the code section has another count.
-pub fn counted(of: SectionKind, functions: u32, bytes: u32, count: u32) -> Machine
-    ensures { result ≡ machine_after_paired_count of functions bytes count }
+pub fn counted(of: SectionKind, counts: Counts, bytes: u32, count: u32) -> Machine
+    ensures { result ≡ machine_after_paired_count of counts bytes count }
 {
     match of {
-        SectionKind::Function => listed(of, count, bytes, count),
-        SectionKind::Code if count == functions => listed(of, 0, bytes, count),
-        SectionKind::Code => Machine::Refused(Why::CodeCount),
-        _ => listed(of, functions, bytes, count),
+        SectionKind::Code if count != counts.functions => Machine::Refused(Why::CodeCount),
+        _ => listed(of, counts.in_section(of, count), bytes, count),
     }
 }
 
 fn count(
     of: SectionKind,
-    functions: u32,
+    counts: Counts,
     more: u32,
     mut number: Num32,
     byte: u8,
 ) -> (Machine, Event)
-    ensures { result ≡ count_step of functions more number byte }
+    ensures { result ≡ count_step of counts more number byte }
 {
     match number.push(byte) {
         Step::More if more == 0 => refused(Why::SectionEnd),
@@ -154,27 +152,27 @@ fn count(
             (
                 Machine::Count {
                     of,
-                    functions,
+                    counts,
                     more,
                     number,
                 },
                 Event::Nothing,
             )
         }
-        Step::Done(n) => (counted(of, functions, more, n), Event::Nothing),
+        Step::Done(n) => (counted(of, counts, more, n), Event::Nothing),
         Step::Bad => refused(Why::BadNumber),
     }
 }
 
-fn section_start(last: u8, functions: u32, byte: u8) -> (Machine, Event)
-    ensures { result ≡ section_start last functions byte }
+fn section_start(last: u8, counts: Counts, byte: u8) -> (Machine, Event)
+    ensures { result ≡ section_start last counts byte }
 {
     let number = Num32::new();
     if byte == 0 {
         return (
             Machine::CustomSize {
                 last,
-                functions,
+                counts,
                 number,
             },
             Event::Nothing,
@@ -183,20 +181,13 @@ fn section_start(last: u8, functions: u32, byte: u8) -> (Machine, Event)
     match SectionKind::of(byte) {
         None => refused(Why::SectionId),
         Some(_) if byte <= last => refused(Why::SectionOrder),
-        Some(SectionKind::Segment) if functions > 0 => refused(Why::CodeCount),
-        Some(of) => (
-            Machine::Size {
-                of,
-                functions,
-                number,
-            },
-            Event::Nothing,
-        ),
+        Some(SectionKind::Segment) if counts.functions > 0 => refused(Why::CodeCount),
+        Some(of) => (Machine::Size { of, counts, number }, Event::Nothing),
     }
 }
 
-fn after_size(of: SectionKind, functions: u32, size: u32) -> Machine
-    ensures { result ≡ after_size of functions size }
+fn after_size(of: SectionKind, counts: Counts, size: u32) -> Machine
+    ensures { result ≡ after_size of counts size }
 {
     if size == 0 {
         return Machine::Refused(Why::SectionEnd);
@@ -205,9 +196,10 @@ fn after_size(of: SectionKind, functions: u32, size: u32) -> Machine
     match of {
         SectionKind::Start => {
             let at = begin(of);
+            let counts = counts.in_section(of, 1);
             Machine::Section {
                 of,
-                functions,
+                counts,
                 more,
                 left: 0,
                 at,
@@ -217,7 +209,7 @@ fn after_size(of: SectionKind, functions: u32, size: u32) -> Machine
             let number = Num32::new();
             Machine::Count {
                 of,
-                functions,
+                counts,
                 more,
                 number,
             }
@@ -225,42 +217,35 @@ fn after_size(of: SectionKind, functions: u32, size: u32) -> Machine
     }
 }
 
-fn section_size(of: SectionKind, functions: u32, mut number: Num32, byte: u8) -> (Machine, Event)
-    ensures { result ≡ size_step of functions number byte }
+fn section_size(of: SectionKind, counts: Counts, mut number: Num32, byte: u8) -> (Machine, Event)
+    ensures { result ≡ size_step of counts number byte }
 {
     match number.push(byte) {
-        Step::More => (
-            Machine::Size {
-                of,
-                functions,
-                number,
-            },
-            Event::Nothing,
-        ),
-        Step::Done(n) => (after_size(of, functions, n), Event::Nothing),
+        Step::More => (Machine::Size { of, counts, number }, Event::Nothing),
+        Step::Done(n) => (after_size(of, counts, n), Event::Nothing),
         Step::Bad => refused(Why::BadNumber),
     }
 }
 
-fn after_custom_size(last: u8, functions: u32, size: u32) -> Machine
-    ensures { result ≡ custom_size last functions size }
+fn after_custom_size(last: u8, counts: Counts, size: u32) -> Machine
+    ensures { result ≡ custom_size last counts size }
 {
-    custom_framed(last, functions, size, InCustom::Length(Num32::new()))
+    custom_framed(last, counts, size, InCustom::Length(Num32::new()))
 }
 
-fn custom_size(last: u8, functions: u32, mut number: Num32, byte: u8) -> (Machine, Event)
-    ensures { result ≡ custom_size_step last functions number byte }
+fn custom_size(last: u8, counts: Counts, mut number: Num32, byte: u8) -> (Machine, Event)
+    ensures { result ≡ custom_size_step last counts number byte }
 {
     match number.push(byte) {
         Step::More => (
             Machine::CustomSize {
                 last,
-                functions,
+                counts,
                 number,
             },
             Event::Nothing,
         ),
-        Step::Done(n) => (after_custom_size(last, functions, n), Event::Nothing),
+        Step::Done(n) => (after_custom_size(last, counts, n), Event::Nothing),
         Step::Bad => refused(Why::BadNumber),
     }
 }
@@ -278,11 +263,8 @@ fn in_header(at: u8, byte: u8) -> (Machine, Event)
     } else if at < 7 {
         (Machine::Header(at + 1), Event::Nothing)
     } else {
-        let start = Machine::Between {
-            last: 0,
-            functions: 0,
-        };
-        (start, Event::Nothing)
+        let counts = Counts::none();
+        (Machine::Between { last: 0, counts }, Event::Nothing)
     }
 }
 
@@ -303,41 +285,37 @@ fn stepped(profile: Profile, machine: Machine, byte: u8) -> (Machine, Event)
 {
     match machine {
         Machine::Header(at) => in_header(at, byte),
-        Machine::Between { last, functions } => section_start(last, functions, byte),
+        Machine::Between { last, counts } => section_start(last, counts, byte),
         Machine::CustomSize {
             last,
-            functions,
+            counts,
             number,
-        } => custom_size(last, functions, number, byte),
+        } => custom_size(last, counts, number, byte),
         Machine::Custom {
             last,
-            functions,
+            counts,
             more,
             part,
         } => {
             let (part, event) = custom_byte(part, byte);
-            (custom_framed(last, functions, more, part), event)
+            (custom_framed(last, counts, more, part), event)
         }
-        Machine::Size {
-            of,
-            functions,
-            number,
-        } => section_size(of, functions, number, byte),
+        Machine::Size { of, counts, number } => section_size(of, counts, number, byte),
         Machine::Count {
             of,
-            functions,
+            counts,
             more,
             number,
-        } => count(of, functions, more, number, byte),
+        } => count(of, counts, more, number, byte),
         Machine::Section {
             of,
-            functions,
+            counts,
             more,
             left,
             at,
         } => {
             let (at, event) = member_byte(profile, at, byte);
-            (framed(of, functions, more, left, at), event)
+            (framed(of, counts, more, left, at), event)
         }
         Machine::Refused(why) => refused(why),
     }

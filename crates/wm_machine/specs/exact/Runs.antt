@@ -86,7 +86,7 @@ zone_in (at.Entry (suc n) q) = entry
 zone_in q = outside
 
 abbrev pub zone_of : Machine → Zone
-zone_of (machine.Section of functions more left q) = zone_in q
+zone_of (machine.Section of counts more left q) = zone_in q
 zone_of m = outside
 
 pub record MachineState : Type 0 where

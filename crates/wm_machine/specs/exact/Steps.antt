@@ -11,6 +11,7 @@ use Rattle.wm_syntax.specs.declared.why.Why.TheVariants as why
 use Rattle.wm_machine.specs.declared.machine.NameKind.TheVariants as kind
 use Rattle.wm_machine.specs.declared.machine.InCustom.{InCustom}
 use Rattle.wm_machine.specs.declared.machine.InCustom.TheVariants as custom
+use Rattle.wm_machine.specs.declared.machine.Counts.{Counts}
 use Rattle.wm_machine.specs.declared.machine.Machine.{Machine}
 use Rattle.wm_machine.specs.declared.machine.Machine.TheVariants as machine
 use Rattle.wm_machine.specs.declared.machine.Event.{Event}
@@ -22,6 +23,17 @@ use Rattle.wm_machine.specs.declared.machine.member.InMember.TheVariants as at
 use Rattle.wm_machine.specs.Sections.{header}
 use Rattle.wm_machine.specs.exact.Members.{id_of, section_kind_of, member_at_start}
 use Rattle.wm_machine.specs.exact.MemberSteps.{on_number, member_step}
+
+-- the counts before the first section
+abbrev pub no_counts : Counts
+no_counts = record { functions = 0; members = 0 }
+
+-- The counts in a section with n members. The function section declares n functions. After the count of the code
+-- section, none of them is without code.
+abbrev pub counts_in : SectionKind → Counts → ℕ → Counts
+counts_in section_kind.Function counts n = record { functions = n; members = n }
+counts_in section_kind.Code counts n = record { functions = 0; members = n }
+counts_in of counts n = record { functions = counts.functions; members = n }
 
 -- custom sections
 abbrev pub no_custom : Why → InCustom × Event
@@ -45,104 +57,108 @@ custom_step custom.Skip c = (custom.Skip, event.Nothing)
 custom_step (custom.Failed w) c = no_custom why.SectionEnd
 
 -- the state with `left` bytes of a custom section to come
-abbrev pub machine_in_custom : ℕ → ℕ → ℕ → InCustom → Machine
-machine_in_custom last functions left (custom.Failed w) = machine.Refused w
-machine_in_custom last functions zero custom.Skip = machine.Between last functions
-machine_in_custom last functions zero q = machine.Refused why.SectionEnd
-machine_in_custom last functions (suc n) q = machine.Custom last functions n q
+abbrev pub machine_in_custom : ℕ → Counts → ℕ → InCustom → Machine
+machine_in_custom last counts left (custom.Failed w) = machine.Refused w
+machine_in_custom last counts zero custom.Skip = machine.Between last counts
+machine_in_custom last counts zero q = machine.Refused why.SectionEnd
+machine_in_custom last counts (suc n) q = machine.Custom last counts n q
 
 -- the state inside a member, with `bytes` bytes of the section and `left` further members to come
-abbrev pub machine_in_member : SectionKind → ℕ → ℕ → ℕ → InMember → Machine
-machine_in_member of functions bytes left (at.Failed w) = machine.Refused w
-machine_in_member of functions zero zero at.Over = machine.Between (id_of of) functions
-machine_in_member of functions (suc n) zero at.Over = machine.Refused why.SectionEnd
-machine_in_member of functions zero (suc l) at.Over = machine.Refused why.SectionEnd
-machine_in_member of functions (suc n) (suc l) at.Over = machine.Section of functions n l (member_at_start of)
-machine_in_member of functions zero left q = machine.Refused why.SectionEnd
-machine_in_member of functions (suc n) left q = machine.Section of functions n left q
+abbrev pub machine_in_member : SectionKind → Counts → ℕ → ℕ → InMember → Machine
+machine_in_member of counts bytes left (at.Failed w) = machine.Refused w
+machine_in_member of counts zero zero at.Over = machine.Between (id_of of) counts
+machine_in_member of counts (suc n) zero at.Over = machine.Refused why.SectionEnd
+machine_in_member of counts zero (suc l) at.Over = machine.Refused why.SectionEnd
+machine_in_member of counts (suc n) (suc l) at.Over = machine.Section of counts n l (member_at_start of)
+machine_in_member of counts zero left q = machine.Refused why.SectionEnd
+machine_in_member of counts (suc n) left q = machine.Section of counts n left q
 
 abbrev pub machine_refused : Why → Machine × Event
 machine_refused w = (machine.Refused w, event.Nothing)
 
 -- the state after the member count of a section
-abbrev pub machine_after_count : SectionKind → ℕ → ℕ → ℕ → Machine
-machine_after_count of functions bytes zero = machine_in_member of functions bytes zero at.Over
-machine_after_count of functions bytes (suc n) = machine_in_member of functions bytes n (member_at_start of)
+abbrev pub machine_after_count : SectionKind → Counts → ℕ → ℕ → Machine
+machine_after_count of counts bytes zero = machine_in_member of counts bytes zero at.Over
+machine_after_count of counts bytes (suc n) = machine_in_member of counts bytes n (member_at_start of)
 
 -- the state after the member count; keeps that of the function section, and compares that of the code section with it
-abbrev pub machine_after_paired_count : SectionKind → ℕ → ℕ → ℕ → Machine
-machine_after_paired_count section_kind.Function functions bytes n =
-    machine_after_count section_kind.Function n bytes n
-machine_after_paired_count section_kind.Code functions bytes n =
-    if n == functions then machine_after_count section_kind.Code 0 bytes n else machine.Refused why.CodeCount
-machine_after_paired_count of functions bytes n = machine_after_count of functions bytes n
+abbrev pub machine_after_paired_count : SectionKind → Counts → ℕ → ℕ → Machine
+machine_after_paired_count section_kind.Code counts bytes n =
+    if n == counts.functions
+    then machine_after_count section_kind.Code (counts_in section_kind.Code counts n) bytes n
+    else machine.Refused why.CodeCount
+machine_after_paired_count of counts bytes n = machine_after_count of (counts_in of counts n) bytes n
 
-abbrev pub count_more : SectionKind → ℕ → ℕ → Partial → Machine × Event
-count_more of functions zero r = machine_refused why.SectionEnd
-count_more of functions (suc n) r = (machine.Count of functions n r, event.Nothing)
+abbrev pub count_more : SectionKind → Counts → ℕ → Partial → Machine × Event
+count_more of counts zero r = machine_refused why.SectionEnd
+count_more of counts (suc n) r = (machine.Count of counts n r, event.Nothing)
 
-abbrev pub after_count : SectionKind → ℕ → ℕ → Step ℕ × Partial → Machine × Event
-after_count of functions more (More, r) = count_more of functions more r
-after_count of functions more (Done n, r) = (machine_after_paired_count of functions more n, event.Nothing)
-after_count of functions more (Bad, r) = machine_refused why.BadNumber
+abbrev pub after_count : SectionKind → Counts → ℕ → Step ℕ × Partial → Machine × Event
+after_count of counts more (More, r) = count_more of counts more r
+after_count of counts more (Done n, r) = (machine_after_paired_count of counts more n, event.Nothing)
+after_count of counts more (Bad, r) = machine_refused why.BadNumber
 
-abbrev pub count_step : SectionKind → ℕ → ℕ → Partial → ℕ → Machine × Event
-count_step of functions more r c = after_count of functions more (unsigned_push 32 r c)
+abbrev pub count_step : SectionKind → Counts → ℕ → Partial → ℕ → Machine × Event
+count_step of counts more r c = after_count of counts more (unsigned_push 32 r c)
 
--- the data section is the last: no code section can follow its id
-abbrev pub begun_section : SectionKind → ℕ → Machine × Event
-begun_section section_kind.Segment (suc n) = machine_refused why.CodeCount
-begun_section of functions = (machine.Size of functions fresh, event.Nothing)
+-- the data section begins, and this many functions have no code: no code section can follow its id
+abbrev pub begun_last : ℕ → Counts → Machine × Event
+begun_last zero counts = (machine.Size section_kind.Segment counts fresh, event.Nothing)
+begun_last (suc n) counts = machine_refused why.CodeCount
 
-abbrev pub machine_if_rising : ℕ → ℕ → ℕ → Option SectionKind → Machine × Event
-machine_if_rising last functions id None = machine_refused why.SectionId
-machine_if_rising last functions id (Some of) = if nat_le id last then machine_refused why.SectionOrder
-    else begun_section of functions
+abbrev pub begun_section : SectionKind → Counts → Machine × Event
+begun_section section_kind.Segment counts = begun_last counts.functions counts
+begun_section of counts = (machine.Size of counts fresh, event.Nothing)
 
-abbrev pub section_start : ℕ → ℕ → ℕ → Machine × Event
-section_start last functions zero = (machine.CustomSize last functions fresh, event.Nothing)
-section_start last functions (suc m) = machine_if_rising last functions (suc m) (section_kind_of (suc m))
+abbrev pub machine_if_rising : ℕ → Counts → ℕ → Option SectionKind → Machine × Event
+machine_if_rising last counts id None = machine_refused why.SectionId
+machine_if_rising last counts id (Some of) = if nat_le id last then machine_refused why.SectionOrder
+    else begun_section of counts
+
+abbrev pub section_start : ℕ → Counts → ℕ → Machine × Event
+section_start last counts zero = (machine.CustomSize last counts fresh, event.Nothing)
+section_start last counts (suc m) = machine_if_rising last counts (suc m) (section_kind_of (suc m))
 
 -- the state before the contents of a section, with `more` bytes of it after the next
-abbrev pub machine_in_contents : SectionKind → ℕ → ℕ → Machine
-machine_in_contents section_kind.Start functions more =
-    machine.Section section_kind.Start functions more 0 (member_at_start section_kind.Start)
-machine_in_contents of functions more = machine.Count of functions more fresh
+abbrev pub machine_in_contents : SectionKind → Counts → ℕ → Machine
+machine_in_contents section_kind.Start counts more =
+    machine.Section section_kind.Start (counts_in section_kind.Start counts 1) more 0 (member_at_start section_kind.Start)
+machine_in_contents of counts more = machine.Count of counts more fresh
 
-abbrev pub after_size : SectionKind → ℕ → ℕ → Machine
-after_size of functions zero = machine.Refused why.SectionEnd
-after_size of functions (suc n) = machine_in_contents of functions n
+abbrev pub after_size : SectionKind → Counts → ℕ → Machine
+after_size of counts zero = machine.Refused why.SectionEnd
+after_size of counts (suc n) = machine_in_contents of counts n
 
-abbrev pub size_step : SectionKind → ℕ → Partial → ℕ → Machine × Event
-size_step of functions r c =
-    on_number (unsigned_push 32 r c) (λ s. machine.Size of functions s)
-    (λ n. (after_size of functions n, event.Nothing)) machine.Refused
+abbrev pub size_step : SectionKind → Counts → Partial → ℕ → Machine × Event
+size_step of counts r c =
+    on_number (unsigned_push 32 r c) (λ s. machine.Size of counts s)
+    (λ n. (after_size of counts n, event.Nothing)) machine.Refused
 
-abbrev pub custom_size : ℕ → ℕ → ℕ → Machine
-custom_size last functions n = machine_in_custom last functions n (custom.Length fresh)
+abbrev pub custom_size : ℕ → Counts → ℕ → Machine
+custom_size last counts n = machine_in_custom last counts n (custom.Length fresh)
 
-abbrev pub custom_size_step : ℕ → ℕ → Partial → ℕ → Machine × Event
-custom_size_step last functions r c =
-    on_number (unsigned_push 32 r c) (λ s. machine.CustomSize last functions s)
-    (λ n. (custom_size last functions n, event.Nothing)) machine.Refused
+abbrev pub custom_size_step : ℕ → Counts → Partial → ℕ → Machine × Event
+custom_size_step last counts r c =
+    on_number (unsigned_push 32 r c) (λ s. machine.CustomSize last counts s)
+    (λ n. (custom_size last counts n, event.Nothing)) machine.Refused
 
 abbrev pub header_step : ℕ → ℕ → Machine × Event
 header_step n c =
     if nat_lt n 8
     then (if c == slice_index header n
     then (if nat_lt n 7 then (machine.Header (n + 1), event.Nothing)
-    else (machine.Between 0 0, event.Nothing))
+    else (machine.Between 0 no_counts, event.Nothing))
     else (if nat_lt n 4 then machine_refused why.Magic else machine_refused why.Version))
     else machine_refused why.Version
 
 abbrev pub step_of : Profile → Machine → ℕ → Machine × Event
 step_of p (machine.Header n) c = header_step n c
-step_of p (machine.Between last functions) c = section_start last functions c
-step_of p (machine.CustomSize last functions r) c = custom_size_step last functions r c
-step_of p (machine.Custom last functions more q) c =
-    (machine_in_custom last functions more (custom_step q c).0, (custom_step q c).1)
-step_of p (machine.Size of functions r) c = size_step of functions r c
-step_of p (machine.Count of functions more r) c = count_step of functions more r c
-step_of p (machine.Section of functions more left q) c =
-    (machine_in_member of functions more left (member_step p q c).0, (member_step p q c).1)
+step_of p (machine.Between last counts) c = section_start last counts c
+step_of p (machine.CustomSize last counts r) c = custom_size_step last counts r c
+step_of p (machine.Custom last counts more q) c =
+    (machine_in_custom last counts more (custom_step q c).0, (custom_step q c).1)
+step_of p (machine.Size of counts r) c = size_step of counts r c
+step_of p (machine.Count of counts more r) c = count_step of counts more r c
+step_of p (machine.Section of counts more left q) c =
+    (machine_in_member of counts more left (member_step p q c).0, (member_step p q c).1)
 step_of p (machine.Refused w) c = machine_refused w
