@@ -6,6 +6,7 @@ use Rattle.std.proofs.lemmas.List.{drop-drop, take_rest}
 use Rattle.wm_syntax.specs.declared.profile.Profile.{Profile}
 use Rattle.wm_syntax.specs.declared.why.Why.{Why}
 use Rattle.wm_syntax.specs.declared.why.Why.TheVariants as why
+use Rattle.wm_machine.specs.declared.machine.Counts.{Counts}
 use Rattle.wm_machine.specs.declared.machine.Machine.{Machine}
 use Rattle.wm_machine.specs.declared.machine.Machine.TheVariants as machine
 use Rattle.wm_machine.specs.declared.machine.InCustom.TheVariants as custom
@@ -120,7 +121,7 @@ module _ {H : Type 0} (after : H → Item → Result H Why) (may : H → Item �
       by_count (suc i) e (suc j) d = advances_then bytes m o n h f g s t u a none (omega arith) b (omega arith) eu er
 
   -- the bytes of a custom section
-  pub advances_pass : (bytes : List ℕ) (h : H) (s : Shortcut) (last f more : ℕ) → s.used ≤ length bytes → s.used ≤ more → s.refused ≡ None
+  pub advances_pass : (bytes : List ℕ) (h : H) (s : Shortcut) (last : ℕ) (f : Counts) (more : ℕ) → s.used ≤ length bytes → s.used ≤ more → s.refused ≡ None
       → Advances after may p bytes (machine.Custom last f more custom.Skip) h s (machine.Custom last f (more - s.used) custom.Skip) h
   advances_pass bytes h s last f more within less none = record {
     within = within;
@@ -133,7 +134,7 @@ module _ {H : Type 0} (after : H → Item → Result H Why) (may : H → Item �
   }
 
   -- the bytes of a data segment
-  module _ (bytes : List ℕ) (h g : H) (s : Shortcut) (of : SectionKind) (f left more rest : ℕ) where
+  module _ (bytes : List ℕ) (h g : H) (s : Shortcut) (of : SectionKind) (f : Counts) (left more rest : ℕ) where
     abbrev pub stands : Machine
     stands = machine.Section of f more left (at.Data rest)
 

@@ -6,6 +6,7 @@ use Rattle.wm_syntax.specs.declared.profile.Profile.{Profile}
 use Rattle.wm_syntax.specs.declared.why.Why.{Why}
 use Rattle.wm_syntax.specs.declared.why.Why.TheVariants as why
 use Rattle.wm_syntax.specs.exact.Reading.{fresh}
+use Rattle.wm_machine.specs.declared.machine.Counts.{Counts}
 use Rattle.wm_machine.specs.declared.machine.Machine.{Machine}
 use Rattle.wm_machine.specs.declared.machine.Machine.TheVariants as machine
 use Rattle.wm_machine.specs.declared.machine.Event.{Event}
@@ -51,14 +52,14 @@ module _ {H : Type 0} (after : H → Item → Result H Why) where
 
 module _ {p : Profile} {bytes : List ℕ} {start : ℕ} {m : Machine} where
   -- a byte after which the section goes on, and one after which it may be over
-  pub byte_on : {xs : List Completed} {last : Option Completed} {i more : ℕ} {n : Machine} {of : SectionKind} {f left : ℕ} {q : InMember} (x : Stepped) → Completes p bytes start m xs last i (machine.Section of f more left q) → i < length bytes → 0 < more
+  pub byte_on : {xs : List Completed} {last : Option Completed} {i more : ℕ} {n : Machine} {of : SectionKind} {f : Counts} {left : ℕ} {q : InMember} (x : Stepped) → Completes p bytes start m xs last i (machine.Section of f more left q) → i < length bytes → 0 < more
       → StepsTo p of left q (slice_index bytes i) x → n ≡ after_stepped of f (more - 1) x → Completes p bytes start m (with_last last xs) (completed_part x.part) (i + 1) n
   byte_on {i = i} {more = more} {n = n} {of = of} {f = f} {left = left} {q = q} x steps inside some to en =
       let one : more ≡ suc (more - 1) = omega arith in
       one_byte steps n x.part inside refl
       (ap (λ y. step_of p (machine.Section of f y left q) (slice_index bytes i)) one ∙ (to f (more - 1) ∙ ap (λ (y : Machine). (y, part_event x.part)) (sym en)))
 
-  pub byte_over : {xs : List Completed} {last : Option Completed} {i more : ℕ} {of : SectionKind} {f left : ℕ} {q : InMember} (next : InMember) (x : Option Plain) → Completes p bytes start m xs last i (machine.Section of f more left q) → i < length bytes
+  pub byte_over : {xs : List Completed} {last : Option Completed} {i more : ℕ} {of : SectionKind} {f : Counts} {left : ℕ} {q : InMember} (next : InMember) (x : Option Plain) → Completes p bytes start m xs last i (machine.Section of f more left q) → i < length bytes
       → member_step p q (slice_index bytes i) ≡ (next, part_event x) → Completes p bytes start m (with_last last xs) (completed_part x) (i + 1) (machine_in_member of f more left next)
   byte_over {more = more} {of = of} {f = f} {left = left} next x steps inside to = one_byte steps (machine_in_member of f more left next) x inside refl (ap (λ y. (machine_in_member of f more left y.0, y.1)) to)
 
@@ -254,14 +255,14 @@ none_yet {after = after} {may = may} {p = p} {bytes = bytes} {m = m} {h = h} e =
     subst (λ y. Advances after may p bytes m h (record { used = 0; refused = None }) y h) (sym e) (advances_none after may p bytes m h (record { used = 0; refused = None }) refl refl)
 
 -- A sink was given what bytes of a section completed, after other bytes: it took all, or refused the last of them.
-module _ {H U : Type 0} {after : H → Item → Result H Why} {may : H → Item → Type 0} {p : Profile} {bytes : List ℕ} {start i : ℕ} {of : SectionKind} {functions more left : ℕ} {q : InMember} {l m n : Machine} {xs : List Completed} {last : Option Completed} {h e f : H}
-    {u : Shortcut} (em : l ≡ m) (before : Advances after may p bytes m h (record { used = start; refused = None }) (machine.Section of functions more left q) e)
-    (steps : Completes p bytes start (machine.Section of functions more left q) xs last i n) (some : start < i) (gave : Gave after xs e f) (used : u.used ≡ i) (r : Result U Why) (g : H) where
+module _ {H U : Type 0} {after : H → Item → Result H Why} {may : H → Item → Type 0} {p : Profile} {bytes : List ℕ} {start i : ℕ} {of : SectionKind} {counts : Counts} {more left : ℕ} {q : InMember} {l m n : Machine} {xs : List Completed} {last : Option Completed} {h e f : H}
+    {u : Shortcut} (em : l ≡ m) (before : Advances after may p bytes m h (record { used = start; refused = None }) (machine.Section of counts more left q) e)
+    (steps : Completes p bytes start (machine.Section of counts more left q) xs last i n) (some : start < i) (gave : Gave after xs e f) (used : u.used ≡ i) (r : Result U Why) (g : H) where
   pub then_taken : {o : Machine} → o ≡ n → u.refused ≡ why_refused r o → Taken (last_taken after last f) r g → IfErr r (λ w. w ≡ why.Memory → LastMayRunOut may last f) → Advances after may p bytes l h u o g
   then_taken {o = o} en er given quiet =
       advances_by after may p bytes l o m n h g u em en
-      (advances_on after may p bytes m (machine.Section of functions more left q) n h e g (record { used = start; refused = None }) (record { used = i - start; refused = u.refused }) u before refl
-      (alone p bytes start (machine.Section of functions more left q) after before.within may xs last i n steps some refl (λ k far. omega arith) e f g gave (record { used = i - start; refused = u.refused }) refl r (er ∙ ap (why_refused r) en) given (λ short. quiet)) (omega arith) refl)
+      (advances_on after may p bytes m (machine.Section of counts more left q) n h e g (record { used = start; refused = None }) (record { used = i - start; refused = u.refused }) u before refl
+      (alone p bytes start (machine.Section of counts more left q) after before.within may xs last i n steps some refl (λ k far. omega arith) e f g gave (record { used = i - start; refused = u.refused }) refl r (er ∙ ap (why_refused r) en) given (λ short. quiet)) (omega arith) refl)
 
   -- where it refused it does not matter how machine and sink were left
   pub then_refused : {o : Machine} {d : H} {w : Why} → u.refused ≡ Some w → r ≡ Err w → Taken (last_taken after last f) r g → IfErr r (λ w. w ≡ why.Memory → LastMayRunOut may last f) → Advances after may p bytes l h u o d
@@ -269,8 +270,8 @@ module _ {H U : Type 0} {after : H → Item → Result H Why} {may : H → Item 
       advances_out after may p bytes l n o h g d u w is (omega arith) (then_taken refl (is ∙ sym (ap (λ y. why_refused y n) er)) given quiet)
 
 -- the same of the first bytes
-module _ {H U : Type 0} {after : H → Item → Result H Why} {may : H → Item → Type 0} {p : Profile} {bytes : List ℕ} {i : ℕ} {of : SectionKind} {functions more left : ℕ} {q : InMember} {m n : Machine} {xs : List Completed} {last : Option Completed} {h f : H}
-    {u : Shortcut} (em : m ≡ machine.Section of functions more left q) (steps : Completes p bytes 0 (machine.Section of functions more left q) xs last i n) (some : 0 < i) (gave : Gave after xs h f) (used : u.used ≡ i) (r : Result U Why) (g : H) where
+module _ {H U : Type 0} {after : H → Item → Result H Why} {may : H → Item → Type 0} {p : Profile} {bytes : List ℕ} {i : ℕ} {of : SectionKind} {counts : Counts} {more left : ℕ} {q : InMember} {m n : Machine} {xs : List Completed} {last : Option Completed} {h f : H}
+    {u : Shortcut} (em : m ≡ machine.Section of counts more left q) (steps : Completes p bytes 0 (machine.Section of counts more left q) xs last i n) (some : 0 < i) (gave : Gave after xs h f) (used : u.used ≡ i) (r : Result U Why) (g : H) where
   pub first_taken : {o : Machine} → o ≡ n → u.refused ≡ why_refused r o → Taken (last_taken after last f) r g → IfErr r (λ w. w ≡ why.Memory → LastMayRunOut may last f) → Advances after may p bytes m h u o g
   first_taken en er given quiet = then_taken em (none_yet refl) steps some gave used r g en er given quiet
 
@@ -278,8 +279,8 @@ module _ {H U : Type 0} {after : H → Item → Result H Why} {may : H → Item 
   first_refused is er given quiet = then_refused em (none_yet refl) steps some gave used r g is er given quiet
 
 -- the same bytes, all of which it took, and a shortcut behind them
-pub first_then : {H : Type 0} {after : H → Item → Result H Why} {may : H → Item → Type 0} {p : Profile} {bytes : List ℕ} {i : ℕ} {of : SectionKind} {functions more left : ℕ} {q : InMember} {l m n o : Machine} {xs : List Completed} {h f g : H} {t u : Shortcut}
-    → m ≡ machine.Section of functions more left q → Completes p bytes 0 (machine.Section of functions more left q) xs None i n → 0 < i → refusal_in_machine n ≡ None → Gave after xs h f
+pub first_then : {H : Type 0} {after : H → Item → Result H Why} {may : H → Item → Type 0} {p : Profile} {bytes : List ℕ} {i : ℕ} {of : SectionKind} {counts : Counts} {more left : ℕ} {q : InMember} {l m n o : Machine} {xs : List Completed} {h f g : H} {t u : Shortcut}
+    → m ≡ machine.Section of counts more left q → Completes p bytes 0 (machine.Section of counts more left q) xs None i n → 0 < i → refusal_in_machine n ≡ None → Gave after xs h f
     → Advances after may p (slice_range bytes i (length bytes)) n f t o g → l ≡ o → u.used ≡ i + t.used → u.refused ≡ t.refused → Advances after may p bytes m h u l g
 first_then {after = after} {may = may} {p = p} {bytes = bytes} {i = i} {l = l} {m = m} {n = n} {o = o} {h = h} {f = f} {g = g} {t = t} {u = u} em steps some live gave behind en eu er =
     advances_by after may p bytes m l m o h g u refl en

@@ -34,13 +34,13 @@ entry_closed p rest depth c byte outermost last =
     ∙ ap (λ y. (member_in_entry 0 (entry_after_op (after_reading 0 y).0), op_event plain.BodyOp (after_reading 0 y).1)) (is_alone p 0x0B op.End refl)))
 
 module _ {p : Profile} {bytes : List ℕ} (b : InBody) (byte : slice_index bytes 0 ≡ 0x0B) (depth : b.depth ≡ 0) (rest : b.rest ≡ 0) (some : 0 < length bytes) where
-  pub entry_over : Completes p bytes 0 (before_op b) [] (Some (part (plain.BodyOp op.End))) 1 (machine_in_member b.of b.functions b.more b.left at.Over)
+  pub entry_over : Completes p bytes 0 (before_op b) [] (Some (part (plain.BodyOp op.End))) 1 (machine_in_member b.of b.counts b.more b.left at.Over)
   entry_over = byte_over at.Over (Some (plain.BodyOp op.End)) no_byte some (entry_closed p b.rest b.depth (slice_index bytes 0) byte depth rest)
 
   pub entry_ends : b.of ≡ section_kind.Code → 0 < b.left → 0 < b.more
-      → Completes p bytes 0 (before_op b) [] (Some (part (plain.BodyOp op.End))) 1 (machine.Section section_kind.Code b.functions (b.more - 1) (b.left - 1) (at.EntrySize fresh))
+      → Completes p bytes 0 (before_op b) [] (Some (part (plain.BodyOp op.End))) 1 (machine.Section section_kind.Code b.counts (b.more - 1) (b.left - 1) (at.EntrySize fresh))
   entry_ends of left more =
       let q : InMember = at.Entry b.rest (entry.Body (expression.Op b.depth First)) in
       let ended : Stepped = record { left = b.left - 1; at = at.EntrySize fresh; part = Some (plain.BodyOp op.End) } in
       byte_on ended no_byte some more (steps_so p b.of section_kind.Code b.left q q (slice_index bytes 0) ended of refl (last_steps p b.left b.rest b.depth (slice_index bytes 0) First fresh refl byte depth rest left refl))
-      (ap (λ k. machine.Section k b.functions (b.more - 1) (b.left - 1) (at.EntrySize fresh)) (sym of))
+      (ap (λ k. machine.Section k b.counts (b.more - 1) (b.left - 1) (at.EntrySize fresh)) (sym of))

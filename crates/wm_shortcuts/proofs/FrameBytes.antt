@@ -16,7 +16,7 @@ use Rattle.wm_shortcuts.specs.exact.Completed.Completes.{no_byte, one_byte, one_
 use Rattle.wm_machine.specs.exact.Live.{IsAt, refusal_in_machine}
 use Rattle.wm_shortcuts.specs.exact.Frames.{IsFrameStep, LeadsTo}
 use Rattle.wm_shortcuts.specs.exact.ShortSteps.{part_event}
-use Rattle.wm_machine.specs.exact.Steps.{header_step, step_of}
+use Rattle.wm_machine.specs.exact.Steps.{header_step, no_counts, step_of}
 use Rattle.wm_shortcuts.specs.exact.Shortcuts.{Advances}
 use Rattle.wm_shortcuts.proofs.Advances.{advances_none}
 use Rattle.wm_shortcuts.proofs.Completed.{alone, ok, starts_live, still_there}
@@ -80,12 +80,12 @@ module _ (p : Profile) where
     goes : (i : ℕ) → to i (machine.Header i) → i < 7 → header_step i (slice_index header i) ≡ (machine.Header (i + 1), event.Nothing) → to (i + 1) (machine.Header (i + 1))
     goes i so less is = frames_more bytes (machine.Header 0) (machine.Header i) (machine.Header (i + 1)) i so (omega arith) (header_goes i (slice_index bytes i) (machine.Header (i + 1)) (same i (omega arith)) is refl)
 
-    pub header_leads : LeadsTo p bytes (machine.Header 0) 8 (machine.Between 0 0)
+    pub header_leads : LeadsTo p bytes (machine.Header 0) 8 (machine.Between 0 no_counts)
     header_leads =
         let seven : to 7 (machine.Header 7) =
         goes 6 (goes 5 (goes 4 (goes 3 (goes 2 (goes 1 (goes 0 (frames_none bytes (machine.Header 0)) (omega arith) refl) (omega arith) refl) (omega arith) refl) (omega arith) refl) (omega arith) refl) (omega arith) refl)
         (omega arith) refl in
-        frames_more bytes (machine.Header 0) (machine.Header 7) (machine.Between 0 0) 7 seven (omega arith) (header_goes 7 (slice_index bytes 7) (machine.Between 0 0) (same 7 (omega arith)) refl refl)
+        frames_more bytes (machine.Header 0) (machine.Header 7) (machine.Between 0 no_counts) 7 seven (omega arith) (header_goes 7 (slice_index bytes 7) (machine.Between 0 no_counts) (same 7 (omega arith)) refl refl)
 
 -- they are a shortcut, where none ends in the header
 pub frames_advance : {H : Type 0} (after : H → Item → Result H Why) (p : Profile) (may : H → Item → Type 0) (bytes : List ℕ) (m n : Machine) (h : H) (s : Shortcut) → LeadsTo p bytes m s.used n → s.refused ≡ None → ((k : ℕ) → IsAt m k → 0 < s.used → 8 < k + s.used)

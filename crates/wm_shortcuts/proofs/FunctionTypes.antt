@@ -3,6 +3,7 @@ use Rattle.std.proofs.Common.{◌≡◌, ℕ, zero, suc, ◌+◌, ◌-◌, ◌^�
 use Rattle.wm_syntax.specs.declared.profile.Profile.{Profile}
 use Rattle.wm_syntax.specs.declared.types.ValType.{ValType}
 use Rattle.wm_syntax.specs.exact.Reading.{fresh}
+use Rattle.wm_machine.specs.declared.machine.Counts.{Counts}
 use Rattle.wm_machine.specs.declared.machine.Machine.TheVariants as machine
 use Rattle.wm_machine.specs.declared.machine.Event.{Event}
 use Rattle.wm_machine.specs.declared.machine.Event.TheVariants as event
@@ -25,7 +26,7 @@ use Rattle.wm_shortcuts.proofs.Completed.{byte_on, byte_over}
 use Rattle.wm_shortcuts.proofs.NumberSteps.{framed}
 use Rattle.wm_shortcuts.proofs.WholeNumbers.{u32_one}
 
-at_params : (f more left n : ℕ) (e : Event) → framed section_kind.Type f more left (after_param n, e) ≡ (machine.Section section_kind.Type f more left (after_param n), e)
+at_params : (f : Counts) (more left n : ℕ) (e : Event) → framed section_kind.Type f more left (after_param n, e) ≡ (machine.Section section_kind.Type f more left (after_param n), e)
 at_params f more left zero e = refl
 at_params f more left (suc n) e = refl
 
@@ -73,21 +74,21 @@ typed_over p c t is = ap (λ y. on_type y (λ t. with_item_given (after_result 0
 pub params_start : (i : InParams) → in_params (params_after i 0 i.params) ≡ in_params i
 params_start i =
     let a : i.more - 0 ≡ i.more = omega arith in
-    ap (λ x. machine.Section section_kind.Type i.functions x i.left (after_param i.params)) a
+    ap (λ x. machine.Section section_kind.Type i.counts x i.left (after_param i.params)) a
 
 module _ {p : Profile} {bytes : List ℕ} where
   module _ (e : InSection) where
     pub type_formed : slice_index bytes 0 ≡ 0x60 → 0 < length bytes → 0 < e.more
-        → Completes p bytes 0 (before_member section_kind.Type e) [] (Some (part plain.NewType)) 1 (machine.Section section_kind.Type e.functions (e.more - 1) e.left (at.ParamCount fresh))
+        → Completes p bytes 0 (before_member section_kind.Type e) [] (Some (part plain.NewType)) 1 (machine.Section section_kind.Type e.counts (e.more - 1) e.left (at.ParamCount fresh))
     type_formed form inside more = byte_on (record { left = e.left; at = at.ParamCount fresh; part = Some plain.NewType }) no_byte inside more (form_alone p e.left (slice_index bytes 0) form) refl
 
     pub type_begun : (i : InParams) → slice_index bytes 0 ≡ 0x60 → slice_index bytes 1 ≡ i.params → i.params < 2 ^ 7 → 1 < length bytes → 1 < e.more
-        → i ≡ record { functions = e.functions; more = e.more - 2; left = e.left; params = i.params } → Completes p bytes 0 (before_member section_kind.Type e) (part plain.NewType ∷ []) None 2 (in_params i)
+        → i ≡ record { counts = e.counts; more = e.more - 2; left = e.left; params = i.params } → Completes p bytes 0 (before_member section_kind.Type e) (part plain.NewType ∷ []) None 2 (in_params i)
     type_begun i form count short inside more is =
         let counted : Stepped = record { left = e.left; at = after_param i.params; part = None } in
         let place : e.more - 2 ≡ e.more - 1 - 1 = omega arith in
         byte_on counted (type_formed form (omega arith) (omega arith)) inside (omega arith) (subst (λ c. StepsTo p section_kind.Type e.left (at.ParamCount fresh) c counted) (sym count) (params_alone p e.left i.params short))
-        (ap in_params is ∙ ap (λ n. machine.Section section_kind.Type e.functions n e.left (after_param i.params)) place)
+        (ap in_params is ∙ ap (λ n. machine.Section section_kind.Type e.counts n e.left (after_param i.params)) place)
 
     -- results, after which another type comes
     pub no_result : slice_index bytes 0 ≡ 0 → 0 < length bytes → 0 < e.more → 0 < e.left
@@ -95,7 +96,7 @@ module _ {p : Profile} {bytes : List ℕ} where
     no_result count inside more left = byte_on (record { left = e.left - 1; at = at.TypeForm; part = Some (plain.ResultCount 0) }) no_byte inside more (none_alone p e.left (slice_index bytes 0) count left) refl
 
     pub one_counted : slice_index bytes 0 ≡ 1 → 0 < length bytes → 0 < e.more
-        → Completes p bytes 0 (before_results e) [] (Some (part (plain.ResultCount 1))) 1 (machine.Section section_kind.Type e.functions (e.more - 1) e.left (at.ResultType 0))
+        → Completes p bytes 0 (before_results e) [] (Some (part (plain.ResultCount 1))) 1 (machine.Section section_kind.Type e.counts (e.more - 1) e.left (at.ResultType 0))
     one_counted count inside more = byte_on (record { left = e.left; at = at.ResultType 0; part = Some (plain.ResultCount 1) }) no_byte inside more (one_alone p e.left (slice_index bytes 0) count) refl
 
     module _ {t : ValType} (count : slice_index bytes 0 ≡ 1) (typed : value_type_of p (slice_index bytes 1) ≡ Ok t) (inside : 1 < length bytes) where
@@ -104,14 +105,14 @@ module _ {p : Profile} {bytes : List ℕ} where
       one_result more left =
           let place : e.more - 2 ≡ e.more - 1 - 1 = omega arith in
           byte_on (record { left = e.left - 1; at = at.TypeForm; part = Some (plain.OneResult t) }) (one_counted count (omega arith) (omega arith)) inside (omega arith) (result_alone p e.left (slice_index bytes 1) t typed left)
-          (ap (λ n. machine.Section section_kind.Type e.functions n (e.left - 1) at.TypeForm) place)
+          (ap (λ n. machine.Section section_kind.Type e.counts n (e.left - 1) at.TypeForm) place)
 
       -- the results of a type, whatever comes after it
       pub result_over : 0 < e.more
-          → Completes p bytes 0 (before_results e) (part (plain.ResultCount 1) ∷ []) (Some (part (plain.OneResult t))) 2 (machine_in_member section_kind.Type e.functions (e.more - 1) e.left at.Over)
+          → Completes p bytes 0 (before_results e) (part (plain.ResultCount 1) ∷ []) (Some (part (plain.OneResult t))) 2 (machine_in_member section_kind.Type e.counts (e.more - 1) e.left at.Over)
       result_over more = byte_over at.Over (Some (plain.OneResult t)) (one_counted count (omega arith) more) inside (typed_over p (slice_index bytes 1) t typed)
 
-    pub results_over : slice_index bytes 0 ≡ 0 → 0 < length bytes → Completes p bytes 0 (before_results e) [] (Some (part (plain.ResultCount 0))) 1 (machine_in_member section_kind.Type e.functions e.more e.left at.Over)
+    pub results_over : slice_index bytes 0 ≡ 0 → 0 < length bytes → Completes p bytes 0 (before_results e) [] (Some (part (plain.ResultCount 0))) 1 (machine_in_member section_kind.Type e.counts e.more e.left at.Over)
     results_over count inside = byte_over at.Over (Some (plain.ResultCount 0)) no_byte inside (none_over p (slice_index bytes 0) count)
 
   -- a parameter after others
@@ -121,4 +122,4 @@ module _ {p : Profile} {bytes : List ℕ} where
       let place : i.more - (used + 1) ≡ i.more - used - 1 = omega arith in
       subst (λ n. Completes p bytes used (in_params (params_after i used n)) [] (Some (part (plain.Param t))) (used + 1) (in_params (params_after i (used + 1) params))) (sym one)
       (byte_on (record { left = i.left; at = after_param params; part = Some (plain.Param t) }) no_byte inside (omega arith) (param_alone p i.left params (slice_index bytes used) t typed)
-      (ap (λ n. machine.Section section_kind.Type i.functions n i.left (after_param params)) place))
+      (ap (λ n. machine.Section section_kind.Type i.counts n i.left (after_param params)) place))

@@ -6,6 +6,7 @@ use Rattle.wm_syntax.specs.exact.Reading.{fresh, unsigned_push}
 use Rattle.wm_syntax.specs.declared.numbers.Step.{Step}
 use Rattle.wm_syntax.specs.inner.Numbers.{Partial}
 use Rattle.wm_shortcuts.specs.exact.WholeOps.{LiesAt}
+use Rattle.wm_machine.specs.declared.machine.Counts.{Counts}
 use Rattle.wm_machine.specs.declared.machine.Machine.{Machine}
 use Rattle.wm_machine.specs.declared.machine.Machine.TheVariants as machine
 use Rattle.wm_machine.specs.declared.machine.Event.{Event}
@@ -46,7 +47,7 @@ short_lies {bytes = bytes} {used = used} {v = v} (inl (a, less, b)) inside = sub
 short_lies {bytes = bytes} {used = used} {v = v} (inr (a, high, less, b)) inside = subst (λ n. LiesAt (unsigned_push 32) bytes 0 n v) (sym a) (subst (LiesAt (unsigned_push 32) bytes 0 2) (sym b) (u32_two bytes 0 (omega arith) high less))
 
 -- the count of runs
-at_runs : (f more left rest n : ℕ) (e : Event) → framed section_kind.Code f more left (member_in_entry (suc rest) (runs_or_body n), e) ≡ (machine.Section section_kind.Code f more left (at.Entry rest (runs_or_body n)), e)
+at_runs : (f : Counts) (more left rest n : ℕ) (e : Event) → framed section_kind.Code f more left (member_in_entry (suc rest) (runs_or_body n), e) ≡ (machine.Section section_kind.Code f more left (at.Entry rest (runs_or_body n)), e)
 at_runs f more left rest zero e = refl
 at_runs f more left rest (suc n) e = refl
 
@@ -61,7 +62,7 @@ runs_alone p left rest c some less f more =
 abbrev run_goes : ℕ → Reading InRun (ℕ × ValType) → InEntry × Event
 run_goes runs y = on_value y (entry.Run runs) (λ x. with_item_given (runs_or_body runs) (plain.Locals x.0 x.1)) entry.Failed
 
-abbrev run_framed : ℕ → ℕ → ℕ → ℕ → InEntry × Event → Machine × Event
+abbrev run_framed : Counts → ℕ → ℕ → ℕ → InEntry × Event → Machine × Event
 run_framed f more left rest z = framed section_kind.Code f more left (member_in_entry rest z.0, z.1)
 
 count_alone : (p : Profile) (left rest runs c : ℕ) → 0 < rest → c < 2 ^ 7
@@ -81,9 +82,9 @@ type_alone p left rest runs n c t some is f more =
 
 -- after the size
 abbrev sized_at : InSection → ℕ → ℕ → Machine
-sized_at e used v = machine.Section section_kind.Code e.functions (e.more - used) e.left (at.Entry (v - 1) (entry.RunCount fresh))
+sized_at e used v = machine.Section section_kind.Code e.counts (e.more - used) e.left (at.Entry (v - 1) (entry.RunCount fresh))
 
-abbrev sized_by : InSection → ℕ → ℕ → Step ℕ × Partial → Machine × Event
+abbrev sized_by : InSection → Counts → ℕ → Step ℕ × Partial → Machine × Event
 sized_by e f more y = framed section_kind.Code f more e.left (on_number y at.EntrySize (λ n. with_item_given (member_in_entry n (entry.RunCount fresh)) plain.Body) at.Failed)
 
 module _ {p : Profile} {bytes : List ℕ} where
@@ -94,10 +95,10 @@ module _ {p : Profile} {bytes : List ℕ} where
         let first : 0 < used = lies.some in
         let one : v ≡ suc (v - 1) = omega arith in
         number_whole {room = used - 1} (λ _. at.EntrySize) (λ _ r s c is f more. ap (λ y. sized_by e f more y) is) (suc (e.more - used)) 0 (sized_at e used v) (Some plain.Body) lies no_byte (omega arith) (omega arith)
-        (λ r s is. ap (λ y. sized_by e e.functions (e.more - used) y) is ∙ ap (λ n. framed section_kind.Code e.functions (e.more - used) e.left (with_item_given (member_in_entry n (entry.RunCount fresh)) plain.Body)) one)
+        (λ r s is. ap (λ y. sized_by e e.counts (e.more - used) y) is ∙ ap (λ n. framed section_kind.Code e.counts (e.more - used) e.left (with_item_given (member_in_entry n (entry.RunCount fresh)) plain.Body)) one)
 
     pub head_begun : {used : ℕ} (i : InHead) → IsShort bytes used (i.rest + 2) → used < length bytes → used < e.more → slice_index bytes used ≡ i.runs → i.runs < 2 ^ 7
-        → i ≡ record { functions = e.functions; more = e.more - (used + 1); left = e.left; rest = i.rest; runs = i.runs } → Completes p bytes 0 (before_member section_kind.Code e) (part plain.Body ∷ []) None (used + 1) (in_head i)
+        → i ≡ record { counts = e.counts; more = e.more - (used + 1); left = e.left; rest = i.rest; runs = i.runs } → Completes p bytes 0 (before_member section_kind.Code e) (part plain.Body ∷ []) None (used + 1) (in_head i)
     head_begun {used = used} i size inside more count short is =
         let next : Stepped = record { left = e.left; at = at.Entry (i.rest + 2 - 1 - 1) (runs_or_body i.runs); part = None } in
         let place : e.more - (used + 1) ≡ e.more - used - 1 = omega arith in
@@ -105,8 +106,8 @@ module _ {p : Profile} {bytes : List ℕ} where
         byte_on next (sized size (omega arith) (omega arith) (omega arith)) inside (omega arith)
         (subst (λ c. StepsTo p section_kind.Code e.left (at.Entry (i.rest + 2 - 1) (entry.RunCount fresh)) c next) (sym count) (runs_alone p e.left (i.rest + 2 - 1) i.runs (omega arith) short))
         (ap in_head is
-        ∙ (ap (λ n. machine.Section section_kind.Code e.functions n e.left (at.Entry i.rest (runs_or_body i.runs))) place
-        ∙ ap (λ n. machine.Section section_kind.Code e.functions (e.more - used - 1) e.left (at.Entry n (runs_or_body i.runs))) less))
+        ∙ (ap (λ n. machine.Section section_kind.Code e.counts n e.left (at.Entry i.rest (runs_or_body i.runs))) place
+        ∙ ap (λ n. machine.Section section_kind.Code e.counts (e.more - used - 1) e.left (at.Entry n (runs_or_body i.runs))) less))
 
   -- a run of locals after others
   pub run_completes : (i : InHead) (used : ℕ) {runs all n : ℕ} {t : ValType} → all ≡ suc runs → n ≡ slice_index bytes used → n < 2 ^ 7 → value_type_of p (slice_index bytes (used + 1)) ≡ Ok t → used + 1 < length bytes → used + 2 ≤ i.more → used + 2 ≤ i.rest
@@ -123,13 +124,13 @@ module _ {p : Profile} {bytes : List ℕ} where
       (byte_on (record { left = i.left; at = at.Entry (rest - 1 - 1) (runs_or_body runs); part = Some (plain.Locals n t) })
       (byte_on counted no_byte (omega arith) (omega arith) (subst (λ c. StepsTo p section_kind.Code i.left (at.Entry rest (entry.Run runs (run.Count fresh))) c counted) count (count_alone p i.left rest runs n (omega arith) short)) refl)
       inside (omega arith) (type_alone p i.left (rest - 1) runs n (slice_index bytes (used + 1)) t (omega arith) type)
-      (ap (λ x. machine.Section section_kind.Code i.functions x i.left (at.Entry (i.rest - (used + 2)) (runs_or_body runs))) a
-      ∙ ap (λ x. machine.Section section_kind.Code i.functions (more - 1 - 1) i.left (at.Entry x (runs_or_body runs))) b)))
+      (ap (λ x. machine.Section section_kind.Code i.counts x i.left (at.Entry (i.rest - (used + 2)) (runs_or_body runs))) a
+      ∙ ap (λ x. machine.Section section_kind.Code i.counts (more - 1 - 1) i.left (at.Entry x (runs_or_body runs))) b)))
 
 -- before the first of them
 pub head_start : (i : InHead) → in_head (head_after i 0 i.runs) ≡ in_head i
 head_start i =
     let a : i.more - 0 ≡ i.more = omega arith in
     let b : i.rest - 0 ≡ i.rest = omega arith in
-    ap (λ x. machine.Section section_kind.Code i.functions x i.left (at.Entry (i.rest - 0) (runs_or_body i.runs))) a
-    ∙ ap (λ x. machine.Section section_kind.Code i.functions i.more i.left (at.Entry x (runs_or_body i.runs))) b
+    ap (λ x. machine.Section section_kind.Code i.counts x i.left (at.Entry (i.rest - 0) (runs_or_body i.runs))) a
+    ∙ ap (λ x. machine.Section section_kind.Code i.counts i.more i.left (at.Entry x (runs_or_body i.runs))) b

@@ -7,6 +7,7 @@ use Rattle.wm_syntax.specs.inner.Numbers.{Partial}
 use Rattle.wm_syntax.specs.declared.why.Why.TheVariants as why
 use Rattle.wm_syntax.specs.declared.instructions.Op.TheVariants as op
 use Rattle.wm_syntax.specs.exact.Reading.{fresh, unsigned_push}
+use Rattle.wm_machine.specs.declared.machine.Counts.{Counts}
 use Rattle.wm_machine.specs.declared.machine.Machine.{Machine}
 use Rattle.wm_machine.specs.declared.machine.Machine.TheVariants as machine
 use Rattle.wm_machine.specs.declared.machine.Event.TheVariants as event
@@ -124,14 +125,14 @@ module _ {p : Profile} {bytes : List ℕ} {start : ℕ} {m : Machine} {xs : List
       let in_more : size ≤ q.more = in_section q.more size q.list room in
       let in_list : size ≤ space = in_space q.more size q.list room in
       number_whole (in_index q.list) (index_goes_on p q.of q.left q.list) (suc (q.more - size)) (suc (space - size)) n (Some (index_part q.list v)) number
-      (subst (λ y. Completes p bytes start m xs before i (machine.Section q.of q.functions q.more q.left y)) (begins q.more q.list) steps) (omega arith) (omega arith)
-      (λ r s e. index_ends p q.of q.left (space - size) v q.list lies some r s (slice_index bytes (last - 1)) e q.functions (q.more - size)
-      ∙ ap (λ (y : Machine). (y, event.Complete (index_part q.list v))) (ap (λ y. machine.Section q.of q.functions (q.more - size) (members_after q.left q.list 1) y) (sym (begins_next q.more size q.list)) ∙ sym en))
+      (subst (λ y. Completes p bytes start m xs before i (machine.Section q.of q.counts q.more q.left y)) (begins q.more q.list) steps) (omega arith) (omega arith)
+      (λ r s e. index_ends p q.of q.left (space - size) v q.list lies some r s (slice_index bytes (last - 1)) e q.counts (q.more - size)
+      ∙ ap (λ (y : Machine). (y, event.Complete (index_part q.list v))) (ap (λ y. machine.Section q.of q.counts (q.more - size) (members_after q.left q.list 1) y) (sym (begins_next q.more size q.list)) ∙ sym en))
 
 -- so many more of a list, after some of it
-past_again : (more left i j n : ℕ) (l : IndexList) (of : SectionKind) (f : ℕ) → i ≤ n
-    → before_index (indices_past (indices_past (record { of = of; functions = f; more = more; left = left; list = l }) i j) (n - i) 1)
-    ≡ before_index (indices_past (record { of = of; functions = f; more = more; left = left; list = l }) n (j + 1))
+past_again : (more left i j n : ℕ) (l : IndexList) (of : SectionKind) (f : Counts) → i ≤ n
+    → before_index (indices_past (indices_past (record { of = of; counts = f; more = more; left = left; list = l }) i j) (n - i) 1)
+    ≡ before_index (indices_past (record { of = of; counts = f; more = more; left = left; list = l }) n (j + 1))
 past_again more left i j n list.Types of f less =
     let a : more - i - (n - i) ≡ more - n = omega arith in
     let b : left - j - 1 ≡ left - (j + 1) = omega arith in
@@ -160,13 +161,13 @@ followed_past left i j (list.Labels rest depth labels) less = omega arith
 
 -- before the first of them
 pub indices_start : (q : InIndices) → before_index (indices_past q 0 0) ≡ before_index q
-indices_start q = by q.of q.functions q.more q.left q.list
+indices_start q = by q.of q.counts q.more q.left q.list
   where
     none : (n : ℕ) → n - 0 ≡ n
     none n = omega arith
 
-    by : (of : SectionKind) (f more left : ℕ) (l : IndexList) → before_index (indices_past (record { of = of; functions = f; more = more; left = left; list = l }) 0 0)
-        ≡ before_index (record { of = of; functions = f; more = more; left = left; list = l })
+    by : (of : SectionKind) (f : Counts) (more left : ℕ) (l : IndexList) → before_index (indices_past (record { of = of; counts = f; more = more; left = left; list = l }) 0 0)
+        ≡ before_index (record { of = of; counts = f; more = more; left = left; list = l })
     by of f more left list.Types =
         ap (λ y. machine.Section of f y (left - 0) (at_index list.Types)) (none more) ∙ ap (λ y. machine.Section of f more y (at_index list.Types)) (none left)
     by of f more left (list.Functions rest) =
@@ -184,7 +185,7 @@ module _ {p : Profile} {bytes : List ℕ} {start : ℕ} {m : Machine} {xs : List
       let order : i < last = number.some in
       subst (λ y. Completes p bytes start m (with_last before xs) (Some (part y)) last (before_index (indices_past q last (j + 1)))) (part_past q.list i j v)
       (one_index (indices_past q i j) (before_index (indices_past q last (j + 1))) (lies_past q.of q.list i j lies) number (room_past q.more i j last q.list room) (followed_past q.left i j q.list some) steps
-      (sym (past_again q.more q.left i j last q.list q.of q.functions (omega arith))))
+      (sym (past_again q.more q.left i j last q.list q.of q.counts (omega arith))))
 
 -- the last byte of the last index
 index_over : (p : Profile) (left all n v : ℕ) (l : IndexList) → followed_in left l ≡ 0 → (r s : Partial) (c : ℕ) → unsigned_push 32 r c ≡ (step.Done v, s)
@@ -207,5 +208,5 @@ last_index_completes {p = p} {bytes = bytes} q {last = last} {v = v} number room
     let a : last - 1 ≤ q.more = in_section q.more (last - 1) q.list room in
     let b : last - 1 ≤ space_in q.more q.list = in_space q.more (last - 1) q.list room in
     number_whole (in_index q.list) (index_goes_on p q.of q.left q.list) (q.more - (last - 1)) (space_in q.more q.list - (last - 1)) (indices_ended q (last - 1)) (Some (index_part q.list v)) number
-    (subst (λ y. Completes p bytes 0 (before_index q) [] None 0 (machine.Section q.of q.functions q.more q.left y)) (begins q.more q.list) no_byte) (omega arith) (omega arith)
-    (λ r s e. ap (λ y. (machine_in_member q.of q.functions (q.more - (last - 1)) q.left y.0, y.1)) (index_over p q.left q.more (last - 1) v q.list none r s (slice_index bytes (last - 1)) e))
+    (subst (λ y. Completes p bytes 0 (before_index q) [] None 0 (machine.Section q.of q.counts q.more q.left y)) (begins q.more q.list) no_byte) (omega arith) (omega arith)
+    (λ r s e. ap (λ y. (machine_in_member q.of q.counts (q.more - (last - 1)) q.left y.0, y.1)) (index_over p q.left q.more (last - 1) v q.list none r s (slice_index bytes (last - 1)) e))

@@ -74,7 +74,7 @@ max_ends p l of left min = record {
 
 -- in the limits, after so many bytes
 abbrev in_them : InSection → Limited → ℕ → InLimits → Machine
-in_them i l used q = machine.Section (limited_section l) i.functions (i.more - used) i.left (in_limits l q)
+in_them i l used q = machine.Section (limited_section l) i.counts (i.more - used) i.left (in_limits l q)
 
 module _ {p : Profile} {bytes : List ℕ} (i : InSection) where
   -- up to the limits
@@ -85,7 +85,7 @@ module _ {p : Profile} {bytes : List ℕ} (i : InSection) where
   begun limited.Memory from b some room =
       let all : i.more ≡ i.more - 0 = omega arith in
       subst (λ n. Completes p bytes 0 (before_member (limited_section limited.Memory) i) [] None n (in_them i limited.Memory n limits.Flag)) (sym b)
-      (subst (λ n. Completes p bytes 0 (before_member (limited_section limited.Memory) i) [] None 0 (machine.Section section_kind.Memory i.functions n i.left (in_limits limited.Memory limits.Flag))) all no_byte)
+      (subst (λ n. Completes p bytes 0 (before_member (limited_section limited.Memory) i) [] None 0 (machine.Section section_kind.Memory i.counts n i.left (in_limits limited.Memory limits.Flag))) all no_byte)
 
   -- with the flag
   flagged : (l : Limited) (from : ℕ) (bounded : Bool) → LimitsBegin l bytes from → flag_step (slice_index bytes from) ≡ More (limits.Min bounded fresh) → from < length bytes → from < i.more
@@ -93,14 +93,14 @@ module _ {p : Profile} {bytes : List ℕ} (i : InSection) where
   flagged l from bounded b is inside room =
       let place : i.more - (from + 1) ≡ i.more - from - 1 = omega arith in
       byte_on (record { left = i.left; at = in_limits l (limits.Min bounded fresh); part = None }) (begun l from b (omega arith) (omega arith)) inside (omega arith)
-      (goes p l (limited_section l) i.left limits.Flag (limits.Min bounded fresh) (slice_index bytes from) is) (ap (λ n. machine.Section (limited_section l) i.functions n i.left (in_limits l (limits.Min bounded fresh))) place)
+      (goes p l (limited_section l) i.left limits.Flag (limits.Min bounded fresh) (slice_index bytes from) is) (ap (λ n. machine.Section (limited_section l) i.counts n i.left (in_limits l (limits.Min bounded fresh))) place)
 
   pub limits_complete : (l : Limited) (from next : ℕ) (x : Limits) → LimitsBegin l bytes from → next ≤ i.more + 1 → LimitsLie bytes from next x
-      → Completes p bytes 0 (before_member (limited_section l) i) [] (Some (part (limited_item l x))) next (machine_in_member (limited_section l) i.functions (i.more - (next - 1)) i.left at.Over)
+      → Completes p bytes 0 (before_member (limited_section l) i) [] (Some (part (limited_item l x))) next (machine_in_member (limited_section l) i.counts (i.more - (next - 1)) i.left at.Over)
   limits_complete l from next x b room (inl v) =
       let some : from + 1 < next = v.min.some in
       let whole : next ≤ length bytes = v.min.within in
-      subst (λ y. Completes p bytes 0 (before_member (limited_section l) i) [] (Some (part (limited_item l y))) next (machine_in_member (limited_section l) i.functions (i.more - (next - 1)) i.left at.Over)) (sym v.is)
+      subst (λ y. Completes p bytes 0 (before_member (limited_section l) i) [] (Some (part (limited_item l y))) next (machine_in_member (limited_section l) i.counts (i.more - (next - 1)) i.left at.Over)) (sym v.is)
       (number_over (i.more - (next - 1)) (min_ends p l (limited_section l) i.left) v.min (flagged l from false b (ap flag_step v.flag) (omega arith) (omega arith)) (omega arith))
   limits_complete l from next x b room (inr v) =
       let some : from + 1 < v.middle = v.min.some in
@@ -109,6 +109,6 @@ module _ {p : Profile} {bytes : List ℕ} (i : InSection) where
       let place : i.more - v.middle ≡ i.more - (from + 1) - (v.middle - (from + 1)) = omega arith in
       let least : Completes p bytes 0 (before_member (limited_section l) i) [] None v.middle (in_them i l v.middle (limits.Max v.least fresh)) =
       number_on (min_reads p l (limited_section l) i.left) v.min (flagged l from true b (ap flag_step v.flag) (omega arith) (omega arith)) (omega arith)
-      (ap (λ n. machine.Section (limited_section l) i.functions n i.left (in_limits l (limits.Max v.least fresh))) place) in
-      subst (λ y. Completes p bytes 0 (before_member (limited_section l) i) [] (Some (part (limited_item l y))) next (machine_in_member (limited_section l) i.functions (i.more - (next - 1)) i.left at.Over)) (sym v.is)
+      (ap (λ n. machine.Section (limited_section l) i.counts n i.left (in_limits l (limits.Max v.least fresh))) place) in
+      subst (λ y. Completes p bytes 0 (before_member (limited_section l) i) [] (Some (part (limited_item l y))) next (machine_in_member (limited_section l) i.counts (i.more - (next - 1)) i.left at.Over)) (sym v.is)
       (number_over (i.more - (next - 1)) (max_ends p l (limited_section l) i.left v.least) v.max least (omega arith))

@@ -4,6 +4,7 @@ use Rattle.wm_syntax.specs.declared.profile.Profile.{Profile}
 use Rattle.wm_syntax.specs.declared.modules.ImportDesc.TheVariants as desc
 use Rattle.wm_syntax.specs.declared.modules.ExportKind.{ExportKind}
 use Rattle.wm_syntax.specs.exact.Reading.{fresh, unsigned_push}
+use Rattle.wm_machine.specs.declared.machine.Counts.{Counts}
 use Rattle.wm_machine.specs.declared.machine.Machine.{Machine}
 use Rattle.wm_machine.specs.declared.machine.Machine.TheVariants as machine
 use Rattle.wm_machine.specs.declared.machine.NameKind.TheVariants as name
@@ -74,13 +75,13 @@ index_ends p left k = record {
 abbrev left_after : ℕ → ℕ → ℕ → ℕ
 left_after more from to = more - (to - from)
 
-abbrev at_import : ℕ → ℕ → ℕ → Machine
+abbrev at_import : Counts → ℕ → ℕ → Machine
 at_import f more left = machine.Section section_kind.Import f more left (at.NameLength name.ImportModule fresh)
 
-abbrev at_export : ℕ → ℕ → ℕ → Machine
+abbrev at_export : Counts → ℕ → ℕ → Machine
 at_export f more left = machine.Section section_kind.Export f more left (at.NameLength name.Export fresh)
 
-module _ {p : Profile} {bytes : List ℕ} {i f left : ℕ} (more : ℕ) where
+module _ {p : Profile} {bytes : List ℕ} {i : ℕ} {f : Counts} {left : ℕ} (more : ℕ) where
   -- an import after other bytes: the name of its module, its own, and what it brings in
   module _ {middle : ℕ} (lies : NameLies bytes i middle) (inside : middle ≤ length bytes) (section : middle ≤ i + more) where
     pub module_named : Completes p bytes i (at_import f more left) [] (Some (named name.ImportModule (slice_range bytes (i + 1) middle))) middle (machine.Section section_kind.Import f (left_after more i middle) left (at.NameLength name.ImportName fresh))
@@ -139,10 +140,10 @@ module _ {p : Profile} {bytes : List ℕ} {i f left : ℕ} (more : ℕ) where
 pub start_of : (of : SectionKind) (i : InSection) → before_member of (section_after i 0 i.left) ≡ before_member of i
 start_of of i =
     let a : i.more - 0 ≡ i.more = omega arith in
-    ap (λ x. machine.Section of i.functions x i.left (member_at_start of)) a
+    ap (λ x. machine.Section of i.counts x i.left (member_at_start of)) a
 
 -- and after it
-pub next_at : (of : SectionKind) (i : InSection) (left from to : ℕ) → from < to → before_member of (section_after i to left) ≡ machine.Section of i.functions (i.more - from - (to - from)) left (member_at_start of)
+pub next_at : (of : SectionKind) (i : InSection) (left from to : ℕ) → from < to → before_member of (section_after i to left) ≡ machine.Section of i.counts (i.more - from - (to - from)) left (member_at_start of)
 next_at of i left from to less =
     let a : i.more - to ≡ i.more - from - (to - from) = omega arith in
-    ap (λ x. machine.Section of i.functions x left (member_at_start of)) a
+    ap (λ x. machine.Section of i.counts x left (member_at_start of)) a

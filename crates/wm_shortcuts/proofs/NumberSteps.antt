@@ -6,6 +6,7 @@ use Rattle.wm_syntax.specs.declared.numbers.Step.TheVariants as step
 use Rattle.wm_syntax.specs.inner.Numbers.{Partial}
 use Rattle.wm_syntax.specs.exact.Reading.{fresh, unsigned_push}
 use Rattle.wm_syntax.specs.declared.profile.Profile.{Profile}
+use Rattle.wm_machine.specs.declared.machine.Counts.{Counts}
 use Rattle.wm_machine.specs.declared.machine.Machine.{Machine}
 use Rattle.wm_machine.specs.declared.machine.Machine.TheVariants as machine
 use Rattle.wm_machine.specs.declared.machine.Event.{Event}
@@ -28,7 +29,7 @@ range_front bytes i stop less inside =
     ap (λ n. take n (drop i bytes)) size ∙ ap (λ (y : List ℕ). take (suc (stop - (i + 1))) y) (drop_more bytes i 0 (omega arith))
 
 -- what a byte makes of the section that goes on after it
-abbrev pub framed : SectionKind → ℕ → ℕ → ℕ → InMember × Event → Machine × Event
+abbrev pub framed : SectionKind → Counts → ℕ → ℕ → InMember × Event → Machine × Event
 framed of f more left z = (machine_in_member of f (suc more) left z.0, z.1)
 
 -- a byte of a number that is not its last goes on so
@@ -49,7 +50,7 @@ pub record EndsWithNumber (profile : Profile) (of : SectionKind) (left : ℕ) (q
   pub goes_on : ByteGoesOn profile of left q q
   pub ends : (r s : Partial) (c v : ℕ) → unsigned_push 32 r c ≡ (step.Done v, s) → member_step profile (q r) c ≡ (next v, part_event (part v))
 
-module _ {profile : Profile} {bytes : List ℕ} {start : ℕ} {m : Machine} {of : SectionKind} {f left : ℕ} where
+module _ {profile : Profile} {bytes : List ℕ} {start : ℕ} {m : Machine} {of : SectionKind} {f : Counts} {left : ℕ} where
   -- After the last byte of a number so many bytes of the section come, and of what the number lies in.
   module _ (q : ℕ → Partial → InMember) (goes : NumberGoesOn profile of left q) (last v ahead space : ℕ) (inside : last < length bytes) (o : Machine) (x : Option Plain)
       (ends : (r s : Partial) → unsigned_push 32 r (slice_index bytes last) ≡ (step.Done v, s) → step_of profile (machine.Section of f ahead left (q space r)) (slice_index bytes last) ≡ (o, part_event x)) where

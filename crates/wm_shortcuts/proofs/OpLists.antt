@@ -1,6 +1,7 @@
 -- Ops that lie whole in a list of bytes.
-use Rattle.std.proofs.Common.{◌≡◌, ℕ, Bool, IsTrue, zero, suc, ◌+◌, ◌-◌, ◌<◌, ◌≤◌, ◌^◌, List, [], ◌∷◌, ◌++◌, Option, Some, None as Nothing, length, refl, sym, ◌∙◌, ap, subst, arith, slice_range, slice_index, take, drop, ℤ, nat_eq, nat_lt, true, cond, length-drop, length-take, Result, IfSome}
+use Rattle.std.proofs.Common.{◌≡◌, ℕ, Bool, IsTrue, zero, suc, ◌+◌, ◌-◌, ◌<◌, ◌≤◌, ◌^◌, List, [], ◌∷◌, ◌++◌, Option, Some, None as Nothing, ◌⊎◌, inl, inr, length, refl, sym, ◌∙◌, ap, subst, arith, slice_range, slice_index, slice_get, take, drop, ℤ, nat_eq, nat_lt, true, cond, length-drop, length-take, Result, IfSome}
 use Rattle.std.proofs.lemmas.Bool.{cond_both, cond-true, eqb-true, lt-ltb}
+use Rattle.std.proofs.Math.Bool.{◌||◌, or-true, true-or}
 use Rattle.std.proofs.Math.Seq.{take-add}
 use Rattle.std.proofs.lemmas.List.{drop-drop}
 use Rattle.wm_syntax.specs.declared.why.Why.{Why}
@@ -9,7 +10,7 @@ use Rattle.wm_syntax.specs.declared.numbers.Step.{Step}
 use Rattle.wm_syntax.specs.declared.numbers.Step.TheVariants as step
 use Rattle.wm_syntax.specs.inner.Numbers.{Partial}
 use Rattle.wm_syntax.specs.exact.Reading.{fresh, unsigned_push, signed_push}
-use Rattle.wm_syntax.specs.exact.ByteTable.{class_under}
+use Rattle.wm_syntax.specs.exact.ByteTable.{class_feature, class_under, classes, left_out, row_in}
 use Rattle.wm_syntax.specs.declared.profile.Profile.{Profile}
 use Rattle.wm_syntax.specs.declared.types.ValType.{ValType}
 use Rattle.wm_syntax.specs.declared.instructions.MemArg.{MemArg}
@@ -18,7 +19,9 @@ use Rattle.wm_syntax.specs.declared.instructions.Op.TheVariants as op
 use Rattle.wm_syntax.specs.declared.instructions.op_class.Immediates.TheVariants as kinds
 use Rattle.wm_syntax.specs.declared.instructions.op_class.OpClass.{OpClass}
 use Rattle.wm_syntax.specs.declared.instructions.op_class.OpClass.TheVariants as class
-use Rattle.wm_syntax.specs.declared.instructions.Simple.{Simple}
+use Rattle.wm_syntax.specs.declared.instructions.Numeric.TheVariants as numeric
+use Rattle.wm_syntax.specs.declared.instructions.Saturation.{Saturation as ASaturation}
+use Rattle.wm_syntax.specs.declared.instructions.Simple.TheVariants as simple
 use Rattle.wm_machine.specs.declared.step.reading.Reading.{Reading}
 use Rattle.wm_machine.specs.declared.step.reading.Reading.TheVariants.{More, Done, Bad}
 use Rattle.wm_machine.specs.declared.step.ops.Indexed.{Indexed}
@@ -32,7 +35,7 @@ use Rattle.wm_machine.specs.declared.step.ops.InOp.{InOp}
 use Rattle.wm_machine.specs.declared.step.ops.InOp.TheVariants as at
 use Rattle.wm_machine.specs.exact.OpSteps.{op_push, class_step, on_answer, index_op, access_op, call_op, memory_op, block_op, block_step, const_32_op, const_64_op, float_32_op, float_64_op, fresh_index, fresh_access, access_class, pushed_32, pushed_64}
 use Rattle.wm_machine.specs.exact.ExpressionSteps.{at_next_op, deeper, after_op}
-use Rattle.wm_shortcuts.specs.exact.WholeOps.{GaveAs, TookAs, NumberGoes, IsNumber, LiesAt, OpGoes, IsOp, OpUnder, WholeOp, class_row, first_read}
+use Rattle.wm_shortcuts.specs.exact.WholeOps.{GaveAs, TookAs, NumberGoes, IsNumber, LiesAt, OpGoes, IsOp, HasNumeric, OpUnder, WholeOp, class_row, first_read}
 use Rattle.wm_shortcuts.specs.declared.whole_ops.Read.{Read}
 use Rattle.wm_shortcuts.specs.declared.whole_ops.Took.{Took}
 use Rattle.wm_shortcuts.specs.declared.whole_ops.Took.TheVariants as took
@@ -40,7 +43,8 @@ use Rattle.wm_machine.specs.Items.{Item}
 use Rattle.wm_shortcuts.proofs.WholeNumbers.{one_range}
 use Rattle.std.specs.Prelude.{if◌then◌else◌}
 use Rattle.wm_syntax.specs.Profiles.{has, has_prefix}
-use Rattle.wm_syntax.specs.declared.profile.Feature.TheVariants.{LongIndex}
+use Rattle.wm_syntax.specs.declared.profile.Feature.{Feature}
+use Rattle.wm_syntax.specs.declared.profile.Feature.TheVariants.{Copies, LongIndex, Saturation}
 
 -- a slice in two
 drop_drop : (xs : List ℕ) (i j : ℕ) → drop j (drop i xs) ≡ drop (i + j) xs
@@ -83,8 +87,8 @@ is_alone p c o e = by_code p c (λ z. let f : Done o ≡ Bad why.BadOpcode = sym
 prefix_more : (p : Profile) (c : ℕ) → c ≡ 0xFC → IsTrue (has_prefix p) → op_push p at.First c ≡ More at.Code
 prefix_more p c z h = ap (op_push p at.First) z ∙ cond-true (has_prefix p) _ _ h
 
-behind : (p : Profile) (c : ℕ) → c < 0x80 → op_push p at.Code c ≡ class_step (class_under p (0x100 + c))
-behind p c l = cond-true (nat_lt c 0x80) _ _ (lt-ltb c 0x80 l)
+by_number : (p : Profile) (c : ℕ) → c < 0x80 → op_push p at.Code c ≡ class_step (class_under p (0x100 + c))
+by_number p c l = cond-true (nat_lt c 0x80) _ _ (lt-ltb c 0x80 l)
 
 pub prefixed : (p : Profile) (bytes : List ℕ) (i k : ℕ) (class : OpClass) (o : Op) → i + 1 < length bytes → i + 1 < k → IsTrue (has_prefix p) → slice_index bytes i ≡ 0xFC → slice_index bytes (i + 1) < 0x80
     → class ≡ class_under p (0x100 + slice_index bytes (i + 1)) → OpGoes (class_step class) (λ r. IsOp p r (slice_range bytes (i + 2) k) o) (slice_range bytes (i + 2) k) o → IsOp p at.First (slice_range bytes i k) o
@@ -92,7 +96,7 @@ prefixed p bytes i k class o within less has first small is rest =
     let two : i + 1 + 1 ≡ i + 2 = omega arith in
     let inner : IsOp p at.Code (slice_range bytes (i + 1) k) o =
     subst (λ (y : List ℕ). IsOp p at.Code y o) (sym (range_first bytes (i + 1) k within less))
-    (subst (λ y. OpGoes y (λ r. IsOp p r (slice_range bytes (i + 1 + 1) k) o) (slice_range bytes (i + 1 + 1) k) o) (ap class_step is ∙ sym (behind p (slice_index bytes (i + 1)) small))
+    (subst (λ y. OpGoes y (λ r. IsOp p r (slice_range bytes (i + 1 + 1) k) o) (slice_range bytes (i + 1 + 1) k) o) (ap class_step is ∙ sym (by_number p (slice_index bytes (i + 1)) small))
     (subst (λ n. OpGoes (class_step class) (λ r. IsOp p r (slice_range bytes n k) o) (slice_range bytes n k) o) (sym two) rest)) in
     subst (λ (y : List ℕ). IsOp p at.First y o) (sym (range_first bytes i k (omega arith) (omega arith)))
     (subst (λ y. OpGoes y (λ r. IsOp p r (slice_range bytes (i + 1) k) o) (slice_range bytes (i + 1) k) o) (sym (prefix_more p (slice_index bytes i) first has)) inner)
@@ -282,33 +286,45 @@ two_closed p bytes i k within next first second =
     (subst (λ c. IsOp p at.FirstZero (c ∷ slice_range bytes (i + 1) k) (memory_op memories.Copy)) (sym first) (closed_at p bytes (i + 1) k memories.Copy within (omega arith) second))
 
 -- the op behind FC: alone, or with its zeros
-module _ (p : Profile) (bytes : List ℕ) (i depth : ℕ) (within : i + 1 < length bytes) (has : IsTrue (has_prefix p)) (first : slice_index bytes i ≡ 0xFC) (small : slice_index bytes (i + 1) < 0x80) where
-  pub behind_alone : (x : Simple) → class.Plain (op.Simple x) ≡ class_under p (0x100 + slice_index bytes (i + 1)) → OpUnder p bytes i (i + 2) depth depth (op.Simple x)
-  behind_alone x is = record {
+either_feature : (p : Profile) (f : Feature) → f ≡ Saturation ⊎ f ≡ Copies → IsTrue (has p f) → IsTrue (has_prefix p)
+either_feature p f (inl is) sure = ap (λ b. b || has p Copies) (subst (λ g. IsTrue (has p g)) is sure) ∙ true-or (has p Copies)
+either_feature p f (inr is) sure = ap (λ b. has p Saturation || b) (subst (λ g. IsTrue (has p g)) is sure) ∙ or-true (has p Saturation)
+
+row_under : (p : Profile) (code : ℕ) (row : OpClass) → slice_get classes code ≡ Some row → IsTrue (has p (class_feature row)) → row ≡ class_under p code
+unfolding class_under
+row_under p code row is sure = sym (ap (row_in p) is ∙ cond-true (has p (class_feature row)) row (left_out (class_feature row)) sure)
+
+module _ (p : Profile) (bytes : List ℕ) (i depth code : ℕ) (within : i + 1 < length bytes) (first : slice_index bytes i ≡ 0xFC) (same : code ≡ 0x100 + slice_index bytes (i + 1)) (small : code < 0x180) where
+  behind : (row : OpClass) (k : ℕ) (o : Op) → i + 1 < k → slice_get classes code ≡ Some row → class_feature row ≡ Saturation ⊎ class_feature row ≡ Copies → IsTrue (has p (class_feature row))
+      → OpGoes (class_step row) (λ r. IsOp p r (slice_range bytes (i + 2) k) o) (slice_range bytes (i + 2) k) o → IsOp p at.First (slice_range bytes i k) o
+  behind row k o less is feature sure rest =
+      prefixed p bytes i k row o within less (either_feature p (class_feature row) feature sure) first (omega arith) (row_under p code row is sure ∙ ap (class_under p) same) rest
+
+  pub behind_saturation : (x : ASaturation) → HasNumeric code (numeric.Saturate x) → IsTrue (has p Saturation) → OpUnder p bytes i (i + 2) depth depth (op.Simple (simple.Numeric (numeric.Saturate x)))
+  behind_saturation x is sure = record {
     some = omega arith;
     within = omega arith;
-    spelled = prefixed p bytes i (i + 2) (class.Plain (op.Simple x)) (op.Simple x) within (omega arith) has first small is (refl, none);
+    spelled = behind (class.Plain (op.Simple (simple.Numeric (numeric.Saturate x)))) (i + 2) (op.Simple (simple.Numeric (numeric.Saturate x))) (omega arith) is (inl refl) sure (refl, none);
     opens = refl;
   }
     where
       none : slice_range bytes (i + 2) (i + 2) ≡ []
       none = ap (λ n. take n (drop (i + 2) bytes)) (let e : (i + 2) - (i + 2) ≡ 0 = omega arith in e)
 
-  pub behind_fill : class.With kinds.MemoryFill ≡ class_under p (0x100 + slice_index bytes (i + 1)) → i + 2 < length bytes → slice_index bytes (i + 2) ≡ 0x00 → OpUnder p bytes i (i + 3) depth depth (memory_op memories.Fill)
-  behind_fill is more closed = record {
+  pub behind_fill : code ≡ 0x10B → IsTrue (has p Copies) → i + 2 < length bytes → slice_index bytes (i + 2) ≡ 0x00 → OpUnder p bytes i (i + 3) depth depth (memory_op memories.Fill)
+  behind_fill is sure more closed = record {
     some = omega arith;
     within = omega arith;
-    spelled = prefixed p bytes i (i + 3) (class.With kinds.MemoryFill) (memory_op memories.Fill) within (omega arith) has first small is (closed_at p bytes (i + 2) (i + 3) memories.Fill more (omega arith) closed);
+    spelled = behind (class.With kinds.MemoryFill) (i + 3) (memory_op memories.Fill) (omega arith) (ap (slice_get classes) is) (inr refl) sure (closed_at p bytes (i + 2) (i + 3) memories.Fill more (omega arith) closed);
     opens = refl;
   }
 
-  pub behind_copy : class.With kinds.MemoryCopy ≡ class_under p (0x100 + slice_index bytes (i + 1)) → i + 3 < length bytes → slice_index bytes (i + 2) ≡ 0x00 → slice_index bytes (i + 3) ≡ 0x00
-      → OpUnder p bytes i (i + 4) depth depth (memory_op memories.Copy)
-  behind_copy is more closed next =
+  pub behind_copy : code ≡ 0x10A → IsTrue (has p Copies) → i + 3 < length bytes → slice_index bytes (i + 2) ≡ 0x00 → slice_index bytes (i + 3) ≡ 0x00 → OpUnder p bytes i (i + 4) depth depth (memory_op memories.Copy)
+  behind_copy is sure more closed next =
       let three : i + 3 ≡ (i + 2) + 1 = omega arith in record {
         some = omega arith;
         within = omega arith;
-        spelled = prefixed p bytes i (i + 4) (class.With kinds.MemoryCopy) (memory_op memories.Copy) within (omega arith) has first small is
+        spelled = behind (class.With kinds.MemoryCopy) (i + 4) (memory_op memories.Copy) (omega arith) (ap (slice_get classes) is) (inr refl) sure
             (two_closed p bytes (i + 2) (i + 4) (omega arith) (omega arith) closed (subst (λ n. slice_index bytes n ≡ 0x00) three next));
         opens = refl;
       }

@@ -70,10 +70,10 @@ begins segments.Data = refl
 
 -- in a head, after so many bytes of it, and the item of its index
 abbrev in_offset : Segments → InSection → ℕ → Machine
-in_offset s i used = machine.Section (section_of s) i.functions (i.more - used) i.left (at.Constant (offset_of s) (at_next_op 0))
+in_offset s i used = machine.Section (section_of s) i.counts (i.more - used) i.left (at.Constant (offset_of s) (at_next_op 0))
 
 abbrev before_size : Segments → InSection → ℕ → Machine
-before_size s i used = machine.Section (section_of s) i.functions (i.more - used) i.left (at.Length (size_of s) fresh)
+before_size s i used = machine.Section (section_of s) i.counts (i.more - used) i.left (at.Length (size_of s) fresh)
 
 abbrev item : Segments → ℕ → Completed
 item s x = part (index_item (index_of s) x)
@@ -84,22 +84,22 @@ module _ {p : Profile} {bytes : List ℕ} (s : Segments) (i : InSection) {x midd
   head_indexed room =
       let place : i.more - middle ≡ i.more - (middle - 0) = omega arith in
       number_on (index_reads p s i.left) index (subst (λ q. Completes p bytes 0 (before_member (section_of s) i) [] None 0 (in_member (section_of s) q i)) (begins s) no_byte) (omega arith)
-      (ap (λ y. machine.Section (section_of s) i.functions y i.left (at.Constant (offset_of s) (at_next_op 0))) place)
+      (ap (λ y. machine.Section (section_of s) i.counts y i.left (at.Constant (offset_of s) (at_next_op 0))) place)
 
   module _ {stop : ℕ} {o : Op} (whole : WholeOp bytes middle stop 0 0 o) (room : stop ≤ i.more) where
     pub head_offset : Completes p bytes 0 (before_member (section_of s) i) (item s x ∷ []) (Some (part (plain.ConstOp o))) stop (in_offset s i stop)
     head_offset =
         let some : middle < stop = whole.some in
         let place : i.more - stop ≡ i.more - middle - (stop - middle) = omega arith in
-        constant_completes (in_offset s i stop) whole (head_indexed (omega arith)) (omega arith) (ap (λ y. machine.Section (section_of s) i.functions y i.left (at.Constant (offset_of s) (at_next_op 0))) place)
+        constant_completes (in_offset s i stop) whole (head_indexed (omega arith)) (omega arith) (ap (λ y. machine.Section (section_of s) i.counts y i.left (at.Constant (offset_of s) (at_next_op 0))) place)
 
     module _ (byte : slice_index bytes stop ≡ 0x0B) (inside : stop < length bytes) (more : stop < i.more) where
       pub head_closed : Completes p bytes 0 (before_member (section_of s) i) (part (plain.ConstOp o) ∷ item s x ∷ []) (Some (part (plain.ConstOp op.End))) (stop + 1) (before_size s i (stop + 1))
       head_closed =
           let place : i.more - (stop + 1) ≡ i.more - stop - 1 = omega arith in
           byte_on (record { left = i.left; at = at.Length (size_of s) fresh; part = Some (plain.ConstOp op.End) }) head_offset inside (omega arith) (offset_ends p s i.left (slice_index bytes stop) byte)
-          (ap (λ y. machine.Section (section_of s) i.functions y i.left (at.Length (size_of s) fresh)) place)
+          (ap (λ y. machine.Section (section_of s) i.counts y i.left (at.Length (size_of s) fresh)) place)
 
       pub head_sized : {n next : ℕ} (rest : ℕ) → LiesAt (unsigned_push 32) bytes (stop + 1) next n → next + rest ≡ i.more + 1
-          → Completes p bytes 0 (before_member (section_of s) i) (part (plain.ConstOp op.End) ∷ part (plain.ConstOp o) ∷ item s x ∷ []) None next (machine_in_member (section_of s) i.functions rest i.left (list_or_over (size_of s) n))
+          → Completes p bytes 0 (before_member (section_of s) i) (part (plain.ConstOp op.End) ∷ part (plain.ConstOp o) ∷ item s x ∷ []) None next (machine_in_member (section_of s) i.counts rest i.left (list_or_over (size_of s) n))
       head_sized rest size room = number_over rest (size_ends p (section_of s) (size_of s) i.left) size head_closed (omega arith)

@@ -8,6 +8,7 @@ use Rattle.wm_syntax.specs.declared.why.Why.TheVariants as why
 use Rattle.wm_syntax.specs.declared.instructions.Op.TheVariants as op
 use Rattle.wm_syntax.specs.exact.Reading.{fresh}
 use Rattle.wm_syntax.specs.inner.Numbers.{Partial}
+use Rattle.wm_machine.specs.declared.machine.Counts.{Counts}
 use Rattle.wm_machine.specs.declared.machine.Machine.{Machine}
 use Rattle.wm_machine.specs.declared.machine.Machine.TheVariants as machine
 use Rattle.wm_machine.specs.declared.machine.Event.{Event}
@@ -35,7 +36,7 @@ use Rattle.wm_shortcuts.specs.exact.Shortcuts.{live_so}
 use Rattle.wm_shortcuts.proofs.OpLists.{is_alone}
 
 -- the end of a body, where another entry comes after this one
-pub last_end : (p : Profile) (f more left : ℕ)
+pub last_end : (p : Profile) (f : Counts) (more left : ℕ)
     → step_of p (machine.Section section_kind.Code f (suc more) (suc left) (at.Entry 0 (entry.Body (expression.Op 0 in_op.First)))) 0x0B
     ≡ (machine.Section section_kind.Code f more left (at.EntrySize fresh), event.Complete (plain.BodyOp op.End))
 last_end p f more left =

@@ -5,6 +5,7 @@ use Rattle.wm_syntax.specs.declared.types.ValType.{ValType}
 use Rattle.wm_syntax.specs.declared.types.GlobalType.{GlobalType}
 use Rattle.wm_syntax.specs.declared.instructions.Op.{Op}
 use Rattle.wm_syntax.specs.declared.instructions.Op.TheVariants as op
+use Rattle.wm_machine.specs.declared.machine.Counts.{Counts}
 use Rattle.wm_machine.specs.declared.machine.Machine.{Machine}
 use Rattle.wm_machine.specs.declared.machine.Machine.TheVariants as machine
 use Rattle.wm_machine.specs.declared.machine.Event.TheVariants as event
@@ -41,7 +42,7 @@ constant_closed p kind c is =
     ∙ ap (λ y. (after_constant kind (after_reading 0 y).0, op_event plain.ConstOp (after_reading 0 y).1)) (is_alone p 0x0B op.End refl)
 
 -- an instruction that lies whole, in a constant expression
-pub constant_completes : {p : Profile} {bytes : List ℕ} {start : ℕ} {m : Machine} {xs : List Completed} {last : Option Completed} {of : SectionKind} {f more left : ℕ} {kind : ConstantOf} {i stop : ℕ} {o : Op} (n : Machine) → WholeOp bytes i stop 0 0 o → Completes p bytes start m xs last i (machine.Section of f more left (at.Constant kind (at_next_op 0)))
+pub constant_completes : {p : Profile} {bytes : List ℕ} {start : ℕ} {m : Machine} {xs : List Completed} {last : Option Completed} {of : SectionKind} {f : Counts} {more left : ℕ} {kind : ConstantOf} {i stop : ℕ} {o : Op} (n : Machine) → WholeOp bytes i stop 0 0 o → Completes p bytes start m xs last i (machine.Section of f more left (at.Constant kind (at_next_op 0)))
     → stop ≤ i + more → n ≡ machine.Section of f (more - (stop - i)) left (at.Constant kind (at_next_op 0))
     → Completes p bytes start m (with_last last xs) (Some (part (plain.ConstOp o))) stop n
 constant_completes {p = p} {xs = xs} {last = last} {of = of} {more = more} {left = left} {kind = kind} {i = i} {stop = stop} {o = o} n whole steps room en =
@@ -64,7 +65,7 @@ var_given p left c t x is f more =
 
 -- in the value of a global, after so many bytes of it
 abbrev in_value : InSection → ℕ → Machine
-in_value i used = machine.Section section_kind.Global i.functions (i.more - used) i.left (at.Constant constant.Global (at_next_op 0))
+in_value i used = machine.Section section_kind.Global i.counts (i.more - used) i.left (at.Constant constant.Global (at_next_op 0))
 
 -- a global at the front: its type, its value, and the end of its value
 module _ {p : Profile} {bytes : List ℕ} (i : InSection) (x : GlobalType) (type : value_type_of p (slice_index bytes 0) ≡ Ok x.ty) (var : var_step x.ty (slice_index bytes 1) ≡ Done x) where
@@ -73,15 +74,15 @@ module _ {p : Profile} {bytes : List ℕ} (i : InSection) (x : GlobalType) (type
       let place : i.more - 2 ≡ i.more - 1 - 1 = omega arith in
       byte_on (record { left = i.left; at = at.Constant constant.Global (at_next_op 0); part = Some (plain.Global x) })
       (byte_on (record { left = i.left; at = at.GlobalType (global_type.Var x.ty); part = None }) no_byte (omega arith) (omega arith) (type_step p i.left (slice_index bytes 0) x.ty type) refl)
-      inside (omega arith) (var_given p i.left (slice_index bytes 1) x.ty x var) (ap (λ y. machine.Section section_kind.Global i.functions y i.left (at.Constant constant.Global (at_next_op 0))) place)
+      inside (omega arith) (var_given p i.left (slice_index bytes 1) x.ty x var) (ap (λ y. machine.Section section_kind.Global i.counts y i.left (at.Constant constant.Global (at_next_op 0))) place)
 
   module _ {stop : ℕ} {o : Op} (whole : WholeOp bytes 2 stop 0 0 o) (inside : stop < length bytes) (room : stop ≤ i.more) where
     pub global_valued : Completes p bytes 0 (before_member section_kind.Global i) (part (plain.Global x) ∷ []) (Some (part (plain.ConstOp o))) stop (in_value i stop)
     global_valued =
         let some : 2 < stop = whole.some in
         let place : i.more - stop ≡ i.more - 2 - (stop - 2) = omega arith in
-        constant_completes (in_value i stop) whole (global_typed (omega arith) (omega arith)) (omega arith) (ap (λ y. machine.Section section_kind.Global i.functions y i.left (at.Constant constant.Global (at_next_op 0))) place)
+        constant_completes (in_value i stop) whole (global_typed (omega arith) (omega arith)) (omega arith) (ap (λ y. machine.Section section_kind.Global i.counts y i.left (at.Constant constant.Global (at_next_op 0))) place)
 
     pub global_closed : slice_index bytes stop ≡ 0x0B
-        → Completes p bytes 0 (before_member section_kind.Global i) (part (plain.ConstOp o) ∷ part (plain.Global x) ∷ []) (Some (part (plain.ConstOp op.End))) (stop + 1) (machine_in_member section_kind.Global i.functions (i.more - stop) i.left at.Over)
+        → Completes p bytes 0 (before_member section_kind.Global i) (part (plain.ConstOp o) ∷ part (plain.Global x) ∷ []) (Some (part (plain.ConstOp op.End))) (stop + 1) (machine_in_member section_kind.Global i.counts (i.more - stop) i.left at.Over)
     global_closed byte = byte_over at.Over (Some (plain.ConstOp op.End)) global_valued inside (constant_closed p constant.Global (slice_index bytes stop) byte)

@@ -4,6 +4,7 @@ use Rattle.std.proofs.lemmas.List.{drop-drop, take_more}
 use Rattle.wm_syntax.specs.declared.profile.Profile.{Profile}
 use Rattle.wm_syntax.specs.declared.why.Why.{Why}
 use Rattle.wm_syntax.specs.exact.Reading.{fresh}
+use Rattle.wm_machine.specs.declared.machine.Counts.{Counts}
 use Rattle.wm_machine.specs.declared.machine.Machine.{Machine}
 use Rattle.wm_machine.specs.declared.machine.Machine.TheVariants as machine
 use Rattle.wm_machine.specs.declared.machine.Event.{Event}
@@ -24,23 +25,23 @@ use Rattle.wm_shortcuts.proofs.WholeNumbers.{u32_one}
 
 module _ (of : SectionKind) (kind : NameKind) where
   -- the machine before the length of a name, at its last byte, and after it
-  abbrev pub before_name : ℕ → ℕ → ℕ → Machine
+  abbrev pub before_name : Counts → ℕ → ℕ → Machine
   before_name f more left = machine.Section of f more left (at.NameLength kind fresh)
 
-  abbrev pub last_of_name : ℕ → ℕ → ℕ → Machine
+  abbrev pub last_of_name : Counts → ℕ → ℕ → Machine
   last_of_name f more left = machine.Section of f more left (at.Name kind 0)
 
-  abbrev pub behind_name : ℕ → ℕ → ℕ → Machine
+  abbrev pub behind_name : Counts → ℕ → ℕ → Machine
   behind_name f more left = machine.Section of f more left (after_name kind)
 
   -- more of the member comes after the name
-  abbrev pub GoesOn : ℕ → ℕ → Type 0
+  abbrev pub GoesOn : Counts → ℕ → Type 0
   GoesOn f left = (more : ℕ) → machine_in_member of f (suc more) left (after_name kind) ≡ behind_name f more left
 
-  abbrev framed : ℕ → ℕ → ℕ → InMember × Event → Machine × Event
+  abbrev framed : Counts → ℕ → ℕ → InMember × Event → Machine × Event
   framed f more left z = (machine_in_member of f more left z.0, z.1)
 
-  begins : (p : Profile) (f more left n c : ℕ) → 0 < more → 0 < n → n < 2 ^ 7 → c ≡ n
+  begins : (p : Profile) (f : Counts) (more left n c : ℕ) → 0 < more → 0 < n → n < 2 ^ 7 → c ≡ n
       → step_of p (before_name f more left) c ≡ (machine.Section of f (more - 1) left (at.Name kind (n - 1)), event.Nothing)
   begins p f more left n c some long short is =
       let room : more ≡ suc (more - 1) = omega arith in
@@ -50,7 +51,7 @@ module _ (of : SectionKind) (kind : NameKind) where
       ∙ (ap (λ y. framed f more left (after_length kind y)) size
       ∙ ap (λ y. framed f y left (at.Name kind (n - 1), event.Nothing)) room))
 
-  ends : (p : Profile) (f more left c : ℕ) → GoesOn f left → 0 < more → step_of p (last_of_name f more left) c ≡ (behind_name f (more - 1) left, event.EndsName kind)
+  ends : (p : Profile) (f : Counts) (more left c : ℕ) → GoesOn f left → 0 < more → step_of p (last_of_name f more left) c ≡ (behind_name f (more - 1) left, event.EndsName kind)
   ends p f more left c on some =
       let room : more ≡ suc (more - 1) = omega arith in
       ap (λ y. framed f y left (after_name kind, event.EndsName kind)) room ∙ ap (λ (y : Machine). (y, event.EndsName kind)) (on (more - 1))
@@ -65,7 +66,7 @@ whole_text bytes n some inside =
     let last : slice_index (drop n bytes) 0 ≡ slice_index rest (n - 1) = get_or-drop n bytes 0 0 ∙ (ap (λ i. get_or bytes i 0) here ∙ sym (get_or-drop 1 bytes (n - 1) 0)) in
     ap (λ c. take (n - 1) rest ++ c ∷ []) last ∙ (sym (take_more rest (n - 1) 0 less) ∙ ap (λ i. take i rest) all)
 
-module _ {H : Type 0} (after : H → Item → Result H Why) (p : Profile) (limit : ℕ) (of : SectionKind) (kind : NameKind) (f left : ℕ) (bytes : List ℕ) (more n : ℕ) (name : List ℕ) (h : H) (k : ℕ)
+module _ {H : Type 0} (after : H → Item → Result H Why) (p : Profile) (limit : ℕ) (of : SectionKind) (kind : NameKind) (f : Counts) (left : ℕ) (bytes : List ℕ) (more n : ℕ) (name : List ℕ) (h : H) (k : ℕ)
     (first : slice_index bytes 0 ≡ n) (some : 0 < n) (short : n < 2 ^ 7) (inside : n < length bytes) (section : n < more) (fits : k + length bytes ≤ limit) where
   abbrev front : List ℕ
   front = take (n - 1) (drop 1 bytes)

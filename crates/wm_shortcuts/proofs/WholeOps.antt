@@ -3,6 +3,7 @@ use Rattle.std.proofs.Common.{◌≡◌, ℕ, zero, suc, ◌+◌, ◌-◌, ◌<�
 use Rattle.wm_syntax.specs.declared.profile.Profile.{Profile}
 use Rattle.wm_syntax.specs.declared.why.Why.{Why}
 use Rattle.wm_syntax.specs.declared.instructions.Op.{Op}
+use Rattle.wm_machine.specs.declared.machine.Counts.{Counts}
 use Rattle.wm_machine.specs.declared.machine.Machine.{Machine}
 use Rattle.wm_machine.specs.declared.machine.Machine.TheVariants as machine
 use Rattle.wm_machine.specs.declared.machine.Event.TheVariants as event
@@ -37,7 +38,7 @@ use Rattle.wm_shortcuts.proofs.NumberSteps.{framed}
 use Rattle.wm_shortcuts.proofs.OpLists.{range_first, range_length}
 
 -- an op where so many bytes of what it lies in come after the next: a byte of it goes on so, and its last ends so
-module _ {p : Profile} {bytes : List ℕ} {start : ℕ} {m : Machine} {of : SectionKind} {f left stop : ℕ} (with : ℕ → InOp → InMember) (next : ℕ → InMember) (given : Plain) (o : Op) (inside : stop ≤ length bytes)
+module _ {p : Profile} {bytes : List ℕ} {start : ℕ} {m : Machine} {of : SectionKind} {f : Counts} {left stop : ℕ} (with : ℕ → InOp → InMember) (next : ℕ → InMember) (given : Plain) (o : Op) (inside : stop ≤ length bytes)
     (goes : (room : ℕ) (q r : InOp) (c : ℕ) → op_push p q c ≡ More r → StepsTo p of left (with (suc room) q) c (record { left = left; at = with room r; part = None }))
     (ends : (room : ℕ) (q : InOp) (c : ℕ) → op_push p q c ≡ Done o → StepsTo p of left (with (suc room) q) c (record { left = left; at = next room; part = Some given })) where
   pub op_completes : (n : Machine) (xs : List Completed) (last : Option Completed) (size i more room : ℕ) (q : InOp) → i + size ≡ stop → size ≤ more → size ≤ room → IsOp p q (slice_range bytes i stop) o → Completes p bytes start m xs last i (machine.Section of f more left (with room q))
@@ -97,7 +98,7 @@ module _ {H : Type 0} (after : H → Item → Result H Why) (p : Profile) (bytes
       (λ k q c is f more. ap (λ y. framed b.of f more b.left (member_in_entry (suc k) (entry_after_op (after_reading d y).0), op_event plain.BodyOp (after_reading d y).1)) is
       ∙ ap (λ y. framed b.of f more b.left (member_in_entry (suc k) (entry_after_op y), event.Complete (plain.BodyOp o))) whole.opens)
       (at_op m e) xs last (m - n) n (b.more - n) (b.rest - n) First (omega arith) (omega arith) (omega arith) whole.spelled steps
-      (ap (λ z. machine.Section b.of b.functions z b.left (at.Entry (b.rest - m) (entry.Body (at_next_op e)))) x ∙ ap (λ z. machine.Section b.of b.functions (b.more - n - (m - n)) b.left (at.Entry z (entry.Body (at_next_op e)))) y)
+      (ap (λ z. machine.Section b.of b.counts z b.left (at.Entry (b.rest - m) (entry.Body (at_next_op e)))) x ∙ ap (λ z. machine.Section b.of b.counts (b.more - n - (m - n)) b.left (at.Entry z (entry.Body (at_next_op e)))) y)
 
   -- those that a sink took
   ops_complete : (n d : ℕ) (g : H) → OpsTaken after p bytes (min b.more b.rest) 0 b.depth h n d g → (xs : List Completed) × (last : Option Completed) × Ops xs last n d × Gave after (with_last last xs) h g

@@ -42,7 +42,7 @@ pub(crate) fn data<S: Sink>(
         return Shortcut { used: end, refused };
     }
     // the next byte is the last of the segment or of the section
-    *machine = framed(of, next.functions, next.more, next.left, data_or_over(rest));
+    *machine = framed(of, next.counts, next.more, next.left, data_or_over(rest));
     if let Err(why) = give_bytes(sink, &bytes[..=end]) {
         return Shortcut::out(end + 1, why);
     }
@@ -65,7 +65,7 @@ pub(crate) fn pass<S: Sink>(
 {
     let Machine::Custom {
         last,
-        functions,
+        counts,
         more,
         part,
     } = *machine
@@ -78,7 +78,7 @@ pub(crate) fn pass<S: Sink>(
     let used = min_len(more, bytes.len());
     *machine = Machine::Custom {
         last,
-        functions,
+        counts,
         more: more - used,
         part,
     };

@@ -65,13 +65,7 @@ fn final_end<S: Sink>(
     if bytes[0] != 0x0B || last.depth != 0 || last.rest != 0 {
         return Shortcut::none();
     }
-    *machine = framed(
-        last.of,
-        last.functions,
-        last.more,
-        last.left,
-        InMember::Over,
-    );
+    *machine = framed(last.of, last.counts, last.more, last.left, InMember::Over);
     let given = give_end(sink);
     Shortcut::ended(1, given, machine)
 }
@@ -105,7 +99,7 @@ impl Link for LastEnd {
             return final_end(sink, machine, profile, bytes);
         }
         let section = InSection {
-            functions: body.functions,
+            counts: body.counts,
             more: body.more,
             left: body.left,
         };

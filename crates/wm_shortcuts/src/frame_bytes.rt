@@ -6,20 +6,20 @@ ghost use Rattle.std.specs.Prelude.{◌≡◌, IfSome, false, true};
 ghost use Rattle.wm_syntax.specs.exact.Reading.{fresh};
 ghost use Rattle.wm_shortcuts.specs.exact.Frames.{IsFrameStep};
 
-use wm_machine::machine::Machine;
 use wm_machine::machine::member::SectionKind;
+use wm_machine::machine::{Counts, Machine};
 use wm_machine::step::counted;
 use wm_syntax::numbers::{Num32, Step};
 
 /// Returns the kind of section that this id begins.
 #[inline(always)]
-pub(crate) fn begun(last: u8, functions: u32, byte: u8) -> Option<SectionKind>
-    ensures { IfSome result (λ of. IsFrameStep (Machine.Between last functions) byte
-        (Machine.Size of functions fresh)) }
+pub(crate) fn begun(last: u8, counts: Counts, byte: u8) -> Option<SectionKind>
+    ensures { IfSome result (λ of. IsFrameStep (Machine.Between last counts) byte
+        (Machine.Size of counts fresh)) }
 {
     let of = SectionKind::of(byte)?;
     match of {
-        SectionKind::Segment if functions > 0 => None,
+        SectionKind::Segment if counts.functions > 0 => None,
         _ if byte <= last => None,
         _ => Some(of),
     }
@@ -27,9 +27,9 @@ pub(crate) fn begun(last: u8, functions: u32, byte: u8) -> Option<SectionKind>
 
 /// Returns how many bytes of the section come after the next, if this byte ends its size.
 #[inline(always)]
-pub(crate) fn size_end(of: SectionKind, functions: u32, mut number: Num32, byte: u8) -> Option<u32>
-    ensures { IfSome result (λ more. IsFrameStep (Machine.Size of functions number) byte
-        (Machine.Count of functions more fresh)) }
+pub(crate) fn size_end(of: SectionKind, counts: Counts, mut number: Num32, byte: u8) -> Option<u32>
+    ensures { IfSome result (λ more. IsFrameStep (Machine.Size of counts number) byte
+        (Machine.Count of counts more fresh)) }
 {
     let Step::Done(size) = number.push(byte) else {
         return None;
@@ -47,12 +47,12 @@ pub(crate) fn size_end(of: SectionKind, functions: u32, mut number: Num32, byte:
 #[inline(always)]
 pub(crate) fn size_more(
     of: SectionKind,
-    functions: u32,
+    counts: Counts,
     mut number: Num32,
     byte: u8,
 ) -> Option<Num32>
-    ensures { IfSome result (λ n. IsFrameStep (Machine.Size of functions number) byte
-        (Machine.Size of functions n)) }
+    ensures { IfSome result (λ n. IsFrameStep (Machine.Size of counts number) byte
+        (Machine.Size of counts n)) }
 {
     match number.push(byte) {
         Step::More => Some(number),
@@ -64,17 +64,17 @@ pub(crate) fn size_more(
 #[inline(always)]
 pub(crate) fn count_end(
     of: SectionKind,
-    functions: u32,
+    counts: Counts,
     more: u32,
     mut number: Num32,
     byte: u8,
 ) -> Option<Machine>
-    ensures { IfSome result (λ n. IsFrameStep (Machine.Count of functions more number) byte n) }
+    ensures { IfSome result (λ n. IsFrameStep (Machine.Count of counts more number) byte n) }
 {
     let Step::Done(n) = number.push(byte) else {
         return None;
     };
-    match counted(of, functions, more, n) {
+    match counted(of, counts, more, n) {
         Machine::Refused(_) => None,
         next => Some(next),
     }
@@ -86,42 +86,30 @@ fn after_byte(machine: Machine, byte: u8) -> Option<Machine>
     ensures { IfSome result (λ n. IsFrameStep machine byte n) }
 {
     match machine {
-        Machine::Between { last, functions } => {
-            let of = begun(last, functions, byte)?;
+        Machine::Between { last, counts } => {
+            let of = begun(last, counts, byte)?;
             let number = Num32::new();
-            Some(Machine::Size {
-                of,
-                functions,
-                number,
-            })
+            Some(Machine::Size { of, counts, number })
         }
-        Machine::Size {
-            of,
-            functions,
-            number,
-        } => {
-            if let Some(number) = size_more(of, functions, number, byte) {
-                return Some(Machine::Size {
-                    of,
-                    functions,
-                    number,
-                });
+        Machine::Size { of, counts, number } => {
+            if let Some(number) = size_more(of, counts, number, byte) {
+                return Some(Machine::Size { of, counts, number });
             }
-            let more = size_end(of, functions, number, byte)?;
+            let more = size_end(of, counts, number, byte)?;
             let number = Num32::new();
             Some(Machine::Count {
                 of,
-                functions,
+                counts,
                 more,
                 number,
             })
         }
         Machine::Count {
             of,
-            functions,
+            counts,
             more,
             number,
-        } => count_end(of, functions, more, number, byte),
+        } => count_end(of, counts, more, number, byte),
         _ => None,
     }
 }

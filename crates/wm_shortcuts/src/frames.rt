@@ -12,8 +12,8 @@ ghost use Rattle.wm_shortcuts.specs.exact.Shortcuts.{Advances};
 
 use crate::frame_bytes::{begun, count_end, frame_byte, size_end, size_more};
 use crate::ways::Shortcut;
-use wm_machine::machine::Machine;
 use wm_machine::machine::member::SectionKind;
+use wm_machine::machine::{Counts, Machine};
 use wm_machine::sink::Sink;
 use wm_syntax::numbers::Num32;
 use wm_syntax::profile::Profile;
@@ -32,21 +32,21 @@ fn short_size(
     profile: Profile,
     bytes: &[u8],
     of: SectionKind,
-    functions: u32,
+    counts: Counts,
 ) -> Option<Sized>
     requires some { 3 < length bytes.now }
-    requires begun { IsFrameStep machine.now (slice_index bytes.now 0) (Machine.Size of functions fresh) }
+    requires begun { IsFrameStep machine.now (slice_index bytes.now 0) (Machine.Size of counts fresh) }
     ensures leads { IfSome result (λ s. LeadsTo profile bytes.now machine.now s.next
-        (Machine.Count of functions s.more fresh)) }
+        (Machine.Count of counts s.more fresh)) }
     ensures within { IfSome result (λ s. s.next < length bytes.now) }
 {
     let number = Num32::new();
     if bytes[1] < 0x80 {
-        let more = size_end(of, functions, number, bytes[1])?;
+        let more = size_end(of, counts, number, bytes[1])?;
         return Some(Sized { next: 2, more });
     }
-    let number = size_more(of, functions, number, bytes[1])?;
-    let more = size_end(of, functions, number, bytes[2])?;
+    let number = size_more(of, counts, number, bytes[1])?;
+    let more = size_end(of, counts, number, bytes[2])?;
     Some(Sized { next: 3, more })
 }
 
@@ -57,20 +57,20 @@ fn short_size(
 fn section_begin(machine: &mut Machine, profile: Profile, bytes: &[u8]) -> usize
     ensures { LeadsTo profile bytes.now machine.old result machine.new }
 {
-    let Machine::Between { last, functions } = *machine else {
+    let Machine::Between { last, counts } = *machine else {
         return 0;
     };
     if bytes.len() < 4 {
         return 0;
     }
-    let Some(of) = begun(last, functions, bytes[0]) else {
+    let Some(of) = begun(last, counts, bytes[0]) else {
         return 0;
     };
-    let Some(size) = short_size(machine, profile, bytes, of, functions) else {
+    let Some(size) = short_size(machine, profile, bytes, of, counts) else {
         return 0;
     };
     let count = bytes[size.next];
-    let Some(next) = count_end(of, functions, size.more, Num32::new(), count) else {
+    let Some(next) = count_end(of, counts, size.more, Num32::new(), count) else {
         return 0;
     };
     *machine = next;
@@ -115,10 +115,8 @@ fn from_header<S: Sink>(sink: &S, machine: &mut Machine, profile: Profile, bytes
     if bytes.len() <= 8 || !has_header(bytes) {
         return Shortcut::none();
     }
-    *machine = Machine::Between {
-        last: 0,
-        functions: 0,
-    };
+    let counts = Counts::none();
+    *machine = Machine::Between { last: 0, counts };
     let used = sections(machine, profile, &bytes[8..]);
     // a fast path must take more than the header
     if used == 0 {

@@ -12,8 +12,8 @@ use crate::chains::{Link, repeated};
 use crate::give::{give_new_type, give_param, give_result, give_result_count};
 use crate::in_section::InSection;
 use crate::ways::Shortcut;
-use wm_machine::machine::Machine;
 use wm_machine::machine::member::{InMember, SectionKind};
+use wm_machine::machine::{Counts, Machine};
 use wm_machine::sink::Sink;
 use wm_machine::step::types::after_param;
 use wm_machine::step::values::value_type;
@@ -53,7 +53,7 @@ fn at_results(machine: Machine) -> Option<InSection>
 /// fields are those of `Machine::Section`.
 #[derive(Clone, Copy)]
 pub(crate) struct InParams {
-    pub(crate) functions: u32,
+    pub(crate) counts: Counts,
     pub(crate) more: u32,
     pub(crate) left: u32,
     pub(crate) params: u32,
@@ -68,7 +68,7 @@ impl InParams {
     {
         Machine::Section {
             of: SectionKind::Type,
-            functions: self.functions,
+            counts: self.counts,
             more: self.more - used,
             left: self.left,
             at: after_param(params),
@@ -92,7 +92,7 @@ fn begin_type(bytes: &[u8], start: InSection) -> Option<InParams>
     ensures form { IfSome result (λ i. slice_index bytes.now 0 ≡ 0x60) }
     ensures count { IfSome result (λ i. (slice_index bytes.now 1 ≡ i.params) × (i.params < 2 ^ 7)) }
     ensures at { IfSome result (λ i. i ≡ record {
-      functions = start.functions;
+      counts = start.counts;
       more = start.more - 2;
       left = start.left;
       params = i.params;
@@ -106,7 +106,7 @@ fn begin_type(bytes: &[u8], start: InSection) -> Option<InParams>
         return None;
     }
     Some(InParams {
-        functions: start.functions,
+        counts: start.counts,
         more: start.more - 2,
         left: start.left,
         params: u32::from(count),

@@ -14,8 +14,8 @@ use crate::give::{give_body, give_locals};
 use crate::in_section::InSection;
 use crate::ways::Shortcut;
 use crate::whole_numbers::Whole;
-use wm_machine::machine::Machine;
 use wm_machine::machine::member::{InEntry, InMember, SectionKind};
+use wm_machine::machine::{Counts, Machine};
 use wm_machine::sink::Sink;
 use wm_machine::step::code_entries::runs_or_body;
 use wm_machine::step::values::{InRun, value_type};
@@ -44,7 +44,7 @@ fn at_entry(machine: Machine) -> Option<InSection>
 /// one, and `runs` the number of runs to come. The other fields are those of `Machine::Section`.
 #[derive(Clone, Copy)]
 pub(crate) struct InHead {
-    pub(crate) functions: u32,
+    pub(crate) counts: Counts,
     pub(crate) more: u32,
     pub(crate) left: u32,
     pub(crate) rest: u32,
@@ -72,7 +72,7 @@ impl InHead {
             return None;
         }
         Some(InHead {
-            functions: section.functions,
+            counts: section.counts,
             more: section.more,
             left: section.left,
             rest,
@@ -89,7 +89,7 @@ impl InHead {
     {
         Machine::Section {
             of: SectionKind::Code,
-            functions: self.functions,
+            counts: self.counts,
             more: self.more - used,
             left: self.left,
             at: InMember::Entry {
@@ -139,7 +139,7 @@ fn begin_head(bytes: &[u8], start: InSection) -> Option<Begun>
     ensures section { IfSome result (λ b. b.sized < start.more) }
     ensures count { IfSome result (λ b. (slice_index bytes.now b.sized ≡ b.at.runs) × (b.at.runs < 2 ^ 7)) }
     ensures at { IfSome result (λ b. b.at ≡ record {
-      functions = start.functions;
+      counts = start.counts;
       more = start.more - (b.sized + 1);
       left = start.left;
       rest = b.at.rest;
@@ -157,7 +157,7 @@ fn begin_head(bytes: &[u8], start: InSection) -> Option<Begun>
     Some(Begun {
         sized: size.next,
         at: InHead {
-            functions: start.functions,
+            counts: start.counts,
             more: start.more - 1 - size.next as u32,
             left: start.left,
             rest: size.value - 2,

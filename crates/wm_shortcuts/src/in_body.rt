@@ -4,8 +4,8 @@ ghost use Rattle.std.specs.Prelude.{◌≡◌, ◌-◌, ◌≤◌, IfSome};
 ghost use Rattle.wm_shortcuts.specs.exact.WholeOps.{before_op};
 
 use crate::in_section::InSection;
-use wm_machine::machine::Machine;
 use wm_machine::machine::member::{InEntry, InMember, SectionKind};
+use wm_machine::machine::{Counts, Machine};
 use wm_machine::step::expressions::InExpression;
 use wm_machine::step::ops::InOp;
 
@@ -14,7 +14,7 @@ use wm_machine::step::ops::InOp;
 #[derive(Clone, Copy)]
 pub(crate) struct InBody {
     pub(crate) of: SectionKind,
-    pub(crate) functions: u32,
+    pub(crate) counts: Counts,
     pub(crate) more: u32,
     pub(crate) left: u32,
     pub(crate) rest: u32,
@@ -40,7 +40,7 @@ impl InBody {
         };
         Some(InBody {
             of,
-            functions: section.functions,
+            counts: section.counts,
             more: section.more,
             left: section.left,
             rest,
@@ -66,7 +66,7 @@ impl InBody {
         };
         Machine::Section {
             of: self.of,
-            functions: self.functions,
+            counts: self.counts,
             more: self.more - used,
             left: self.left,
             at,

@@ -7,15 +7,15 @@ ghost use Rattle.std.specs.Prelude.{◌≡◌, ◌-◌, ◌<◌, ◌≤◌, IfSo
 ghost use Rattle.wm_machine.specs.exact.Steps.{machine_in_member};
 ghost use Rattle.wm_shortcuts.specs.exact.WholeMembers.{before_member, in_member, section_after};
 
-use wm_machine::machine::Machine;
 use wm_machine::machine::member::{InMember, SectionKind};
+use wm_machine::machine::{Counts, Machine};
 use wm_machine::step::framed;
 use wm_machine::step::members::begin;
 
 /// The counts of a section at a byte of a member. The fields are those of `Machine::Section`.
 #[derive(Clone, Copy)]
 pub(crate) struct InSection {
-    pub(crate) functions: u32,
+    pub(crate) counts: Counts,
     pub(crate) more: u32,
     pub(crate) left: u32,
 }
@@ -28,7 +28,7 @@ impl InSection {
     {
         let Machine::Section {
             of,
-            functions,
+            counts,
             more,
             left,
             at,
@@ -36,11 +36,7 @@ impl InSection {
         else {
             return None;
         };
-        let section = InSection {
-            functions,
-            more,
-            left,
-        };
+        let section = InSection { counts, more, left };
         Some((of, at, section))
     }
 
@@ -51,7 +47,7 @@ impl InSection {
         ensures { result ≡ section_after self used left }
     {
         InSection {
-            functions: self.functions,
+            counts: self.counts,
             more: self.more - used,
             left,
         }
@@ -64,7 +60,7 @@ impl InSection {
     {
         Machine::Section {
             of,
-            functions: self.functions,
+            counts: self.counts,
             more: self.more,
             left: self.left,
             at,
@@ -94,14 +90,8 @@ impl InSection {
     #[inline(always)]
     pub(crate) fn over(self, of: SectionKind, used: u32) -> Machine
         requires { used ≤ self.more }
-        ensures { result ≡ machine_in_member of self.functions (self.more - used) self.left InMember.Over }
+        ensures { result ≡ machine_in_member of self.counts (self.more - used) self.left InMember.Over }
     {
-        framed(
-            of,
-            self.functions,
-            self.more - used,
-            self.left,
-            InMember::Over,
-        )
+        framed(of, self.counts, self.more - used, self.left, InMember::Over)
     }
 }

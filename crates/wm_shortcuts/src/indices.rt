@@ -12,8 +12,8 @@ use crate::give::give_short_index;
 use crate::in_section::InSection;
 use crate::ways::{Shortcut, min_len};
 use crate::whole_indices::whole_indices;
-use wm_machine::machine::Machine;
 use wm_machine::machine::member::{InEntry, InMember, IndexOf, SectionKind};
+use wm_machine::machine::{Counts, Machine};
 use wm_machine::sink::Sink;
 use wm_machine::step::code_entries::entry_framed;
 use wm_machine::step::expressions::{InExpression, opened};
@@ -37,7 +37,7 @@ pub(crate) enum IndexList {
 #[derive(Clone, Copy)]
 pub(crate) struct InIndices {
     pub(crate) of: SectionKind,
-    pub(crate) functions: u32,
+    pub(crate) counts: Counts,
     pub(crate) more: u32,
     pub(crate) left: u32,
     pub(crate) list: IndexList,
@@ -139,7 +139,7 @@ impl InIndices {
         let list = IndexList::of(of, at)?;
         Some(InIndices {
             of,
-            functions: section.functions,
+            counts: section.counts,
             more: section.more,
             left: section.left,
             list,
@@ -204,7 +204,7 @@ impl InIndices {
         };
         Machine::Section {
             of: self.of,
-            functions: self.functions,
+            counts: self.counts,
             more: self.more - used,
             left,
             at: list.at(),
@@ -222,7 +222,7 @@ impl InIndices {
                 entry_framed(rest - used, InEntry::Body(opened(depth)))
             }
         };
-        framed(self.of, self.functions, self.more - used, self.left, at)
+        framed(self.of, self.counts, self.more - used, self.left, at)
     }
 }
 

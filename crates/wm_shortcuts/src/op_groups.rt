@@ -6,17 +6,17 @@ ghost use Rattle.wm_shortcuts.specs.exact.WholeOps.{HasAccess, HasNumeric};
 use wm_machine::step::ops::LoadOrStore;
 use wm_syntax::instructions::{
     BinaryOp, Comparison, Conversion, FloatBinaryOp, FloatComparison, FloatType, FloatUnaryOp,
-    IntType, LoadOp, Numeric, SignExtension, StoreOp, UnaryOp,
+    IntType, LoadOp, Numeric, Saturation, SignExtension, StoreOp, UnaryOp,
 };
 use wm_syntax::opcode_table;
 
 // The op of a group with this code, by its row in the table.
 macro_rules! op_by_code {
     (
-        [$ops:ident $byte:ident]
+        [$ops:ident $wanted:ident]
         $($(($ty:ident))? { $($code:literal => $name:literal, $variant:ident $(($($of:tt)*))?;)* })*
     ) => {
-        match $byte {
+        match $wanted {
             $($($code => $ops::$variant,)*)*
             _ => unreachable!(),
         }
@@ -115,4 +115,13 @@ pub(crate) fn sign_extension(byte: u8) -> SignExtension
     ensures { HasNumeric byte (Numeric.SignExtend result) }
 {
     opcode_table!(sign_extend, op_by_code, SignExtension, byte)
+}
+
+#[inline(always)]
+pub(crate) fn saturation(code: u16) -> Saturation
+    requires from { 0x100 ≤ code }
+    requires to { code ≤ 0x107 }
+    ensures { HasNumeric code (Numeric.Saturate result) }
+{
+    opcode_table!(saturate, op_by_code, Saturation, code)
 }

@@ -170,7 +170,7 @@ pub(crate) fn segment_head<S: Sink>(
     }
     let more = place.more - last as u32;
     let at = start.of.after_head(head.size);
-    *machine = framed(start.of.section(), place.functions, more, place.left, at);
+    *machine = framed(start.of.section(), place.counts, more, place.left, at);
     Shortcut {
         used: head.next,
         refused: refusal_of(*machine),

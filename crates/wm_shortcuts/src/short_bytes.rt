@@ -40,7 +40,7 @@ fn stepped<S: Sink>(
     };
     *machine = Machine::Section {
         of: place.of,
-        functions: place.functions,
+        counts: place.counts,
         more: place.more - 1,
         left: next.left,
         at: next.at,

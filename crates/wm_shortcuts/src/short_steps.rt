@@ -7,7 +7,7 @@ ghost use Rattle.wm_shortcuts.specs.exact.ShortSteps.{StepsTo, standing};
 
 use crate::in_section::InSection;
 use wm_machine::machine::member::{InEntry, InMember, SectionKind};
-use wm_machine::machine::{Machine, Plain};
+use wm_machine::machine::{Counts, Machine, Plain};
 use wm_machine::step::code_entries::runs_or_body;
 use wm_machine::step::types::after_param;
 use wm_machine::step::values::{InRun, value_type};
@@ -26,7 +26,7 @@ pub(crate) struct Stepped {
 #[derive(Clone, Copy)]
 pub(crate) struct Place {
     pub(crate) of: SectionKind,
-    pub(crate) functions: u32,
+    pub(crate) counts: Counts,
     pub(crate) more: u32,
     pub(crate) left: u32,
     pub(crate) at: InMember,
@@ -47,7 +47,7 @@ impl Place {
         }
         Some(Place {
             of,
-            functions: section.functions,
+            counts: section.counts,
             more: section.more,
             left: section.left,
             at,

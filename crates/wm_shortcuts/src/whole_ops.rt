@@ -4,7 +4,6 @@
 
 ghost use Rattle.std.specs.Prelude.{◌≡◌, ◌+◌, ◌<◌, ◌≤◌, ◌^◌, ℕ, IfSome, IsTrue, Some, length};
 ghost use Rattle.std.specs.Prelude.{slice_index, slice_range};
-ghost use Rattle.wm_syntax.specs.Profiles.{has_prefix};
 ghost use Rattle.wm_syntax.specs.declared.profile.Profile.{Profile};
 ghost use Rattle.wm_syntax.specs.exact.Reading.{fresh};
 ghost use Rattle.wm_machine.specs.declared.step.reading.Reading.TheVariants.{More};
@@ -12,25 +11,38 @@ ghost use Rattle.wm_machine.specs.declared.step.ops.InOp.TheVariants.{BlockType,
 ghost use Rattle.wm_machine.specs.declared.step.ops.InOp.TheVariants.{Const64, Memory};
 ghost use Rattle.wm_machine.specs.exact.OpSteps.{access_class, call_op, fresh_index, index_op};
 ghost use Rattle.wm_machine.specs.exact.ExpressionSteps.{after_op, at_next_op};
-ghost use Rattle.wm_shortcuts.specs.exact.WholeOps.{GaveAs, IsOp, OpUnder, RanTo, TookAs, WholeOp};
-ghost use Rattle.wm_shortcuts.specs.exact.WholeOps.{class_row, first_read};
+ghost use Rattle.wm_shortcuts.specs.exact.WholeOps.{GaveAs, IsOp, OpFrom, OpUnder, RanTo, TookAs, WholeOp};
+ghost use Rattle.wm_shortcuts.specs.exact.WholeOps.{class_at, class_row, first_read};
 
 use crate::op_groups::{
     binary, comparison, conversion, float_binary, float_comparison, float_unary, narrow_load,
-    narrow_store, sign_extension, unary,
+    narrow_store, saturation, sign_extension, unary,
 };
 use crate::whole_numbers::{s32_at, s64_at, u32_at};
 use wm_machine::item::Item;
 use wm_machine::sink::Sink;
+use wm_machine::step::ops::LoadOrStore::{Load, Store};
 use wm_machine::step::ops::{BlockOp, Indexed, LoadOrStore, MemoryOp, push_32, push_64};
 use wm_syntax::instructions::FloatType::{F32, F64};
 use wm_syntax::instructions::IntType::{I32, I64};
+use wm_syntax::instructions::Numeric::{
+    Binary, Compare, Convert, ExtendS, ExtendU, FloatUnary, SignExtend, Test, Unary, Wrap,
+};
 use wm_syntax::instructions::op_class::{Immediates, OpClass};
-use wm_syntax::instructions::opcodes::op_behind;
 use wm_syntax::instructions::{LoadOp, MemArg, Numeric, Op, Simple, StoreOp};
 use wm_syntax::profile::{Feature, Profile};
 use wm_syntax::types::ValType;
 use wm_syntax::why::Why;
+
+/// The start of an op: the profile, the bytes, its index in them, and the number of open blocks. The profile is
+/// borrowed, since a copy would be loaded for each op.
+#[derive(Clone, Copy)]
+struct OpStart<'a> {
+    profile: &'a Profile,
+    bytes: &'a [u8],
+    at: usize,
+    depth: u32,
+}
 
 /// An op, the index after it, and how many blocks are open there.
 #[derive(Clone, Copy)]
@@ -61,47 +73,49 @@ pub(crate) struct Ran {
     pub(crate) refused: Option<Why>,
 }
 
-// Readers of ops by their immediates: none, an index, a type, one number or two. A reader with a profile reads ops of
-// this profile (`OpUnder`); the others read ops of every profile (`WholeOp`).
+// Readers of ops by their immediates: none, an index, a type, one number or two. A reader with a profile, mostly in an
+// `OpStart`, reads ops of this profile (`OpUnder`, `OpFrom`); the others read ops of every profile (`WholeOp`).
 
 #[inline(always)]
 #[tactic(auto, using(crate::proofs::OpLists::under_alone))]
-fn alone(profile: Profile, bytes: &[u8], at: usize, depth: u32, op: Op) -> Option<Read>
-    requires within { at < length bytes.now }
-    requires class { class_row profile (slice_index bytes.now at) ≡ OpClass.Plain op }
-    requires opens { after_op depth op ≡ at_next_op depth }
-    ensures { IfSome result (λ r. OpUnder profile bytes.now at r.next depth r.depth r.op) }
+fn alone(here: OpStart<'_>, op: Op) -> Option<Read>
+    requires within { here.at < length here.bytes.now }
+    requires class { class_at here ≡ OpClass.Plain op }
+    requires opens { after_op here.depth op ≡ at_next_op here.depth }
+    ensures { IfSome result (OpFrom here.entry) }
 {
-    prove!(at < bytes.len());
-    let next = at + 1;
-    Some(Read { op, next, depth })
-}
-
-#[inline(always)]
-fn end(profile: Profile, bytes: &[u8], at: usize, depth: u32) -> Option<Read>
-    requires within { at < length bytes.now }
-    requires class { class_row profile (slice_index bytes.now at) ≡ OpClass.Plain Op.End }
-    ensures { IfSome result (λ r. OpUnder profile bytes.now at r.next depth r.depth r.op) }
-{
-    prove!(at < bytes.len());
-    if depth == 0 {
-        return None;
-    }
+    prove!(here.at < here.bytes.len());
     Some(Read {
-        op: Op::End,
-        next: at + 1,
-        depth: depth - 1,
+        op,
+        next: here.at + 1,
+        depth: here.depth,
     })
 }
 
 #[inline(always)]
-fn numeric(profile: Profile, bytes: &[u8], at: usize, depth: u32, op: Numeric) -> Option<Read>
-    requires within { at < length bytes.now }
-    requires class { class_row profile (slice_index bytes.now at)
-        ≡ OpClass.Plain (Op.Simple (Simple.Numeric op)) }
-    ensures { IfSome result (λ r. OpUnder profile bytes.now at r.next depth r.depth r.op) }
+fn end(here: OpStart<'_>) -> Option<Read>
+    requires within { here.at < length here.bytes.now }
+    requires class { class_at here ≡ OpClass.Plain Op.End }
+    ensures { IfSome result (OpFrom here.entry) }
 {
-    alone(profile, bytes, at, depth, Op::Simple(Simple::Numeric(op)))
+    prove!(here.at < here.bytes.len());
+    if here.depth == 0 {
+        return None;
+    }
+    Some(Read {
+        op: Op::End,
+        next: here.at + 1,
+        depth: here.depth - 1,
+    })
+}
+
+#[inline(always)]
+fn numeric(here: OpStart<'_>, op: Numeric) -> Option<Read>
+    requires within { here.at < length here.bytes.now }
+    requires class { class_at here ≡ OpClass.Plain (Op.Simple (Simple.Numeric op)) }
+    ensures { IfSome result (OpFrom here.entry) }
+{
+    alone(here, Op::Simple(Simple::Numeric(op)))
 }
 
 #[inline(always)]
@@ -122,16 +136,16 @@ pub(crate) fn with_index(bytes: &[u8], at: usize, depth: u32, op: Indexed) -> Op
 
 // Reads a load or a store
 #[inline(always)]
-fn access(profile: Profile, bytes: &[u8], at: usize, depth: u32, op: LoadOrStore) -> Option<Read>
-    requires within { at + 1 < length bytes.now }
-    requires class { class_row profile (slice_index bytes.now at) ≡ access_class op }
-    ensures { IfSome result (λ r. OpUnder profile bytes.now at r.next depth r.depth r.op) }
+fn access(here: OpStart<'_>, op: LoadOrStore) -> Option<Read>
+    requires within { here.at + 1 < length here.bytes.now }
+    requires class { class_at here ≡ access_class op }
+    ensures { IfSome result (OpFrom here.entry) }
 {
-    let align = u32_at(bytes, at + 1)?;
-    if align.next >= bytes.len() {
+    let align = u32_at(here.bytes, here.at + 1)?;
+    if align.next >= here.bytes.len() {
         return None;
     }
-    let offset = u32_at(bytes, align.next)?;
+    let offset = u32_at(here.bytes, align.next)?;
     let arg = MemArg {
         align: align.value,
         offset: offset.value,
@@ -139,7 +153,7 @@ fn access(profile: Profile, bytes: &[u8], at: usize, depth: u32, op: LoadOrStore
     Some(Read {
         op: op.op(arg),
         next: offset.next,
-        depth,
+        depth: here.depth,
     })
 }
 
@@ -198,17 +212,17 @@ fn with_type(bytes: &[u8], at: usize, depth: u32, op: BlockOp) -> Option<Read>
 
 // Reads a `call_indirect`: a type index, and the table index 0
 #[inline(always)]
-fn call_indirect(profile: Profile, bytes: &[u8], at: usize, depth: u32) -> Option<Read>
-    requires within { at + 1 < length bytes.now }
-    requires class { class_row profile (slice_index bytes.now at) ≡ OpClass.With Immediates.CallIndirect }
-    ensures { IfSome result (λ r. OpUnder profile bytes.now at r.next depth r.depth r.op) }
+fn call_indirect(here: OpStart<'_>) -> Option<Read>
+    requires within { here.at + 1 < length here.bytes.now }
+    requires class { class_at here ≡ OpClass.With Immediates.CallIndirect }
+    ensures { IfSome result (OpFrom here.entry) }
 {
-    let ty = u32_at(bytes, at + 1)?;
-    let next = table_end(profile, bytes, ty.next)?;
+    let ty = u32_at(here.bytes, here.at + 1)?;
+    let next = table_end(*here.profile, here.bytes, ty.next)?;
     Some(Read {
         op: Op::Simple(Simple::CallIndirect(ty.value)),
         next,
-        depth,
+        depth: here.depth,
     })
 }
 
@@ -268,26 +282,31 @@ fn memory(bytes: &[u8], at: usize, depth: u32, op: MemoryOp) -> Option<Read>
 }
 
 // Reads an instruction behind the byte FC whose number is one byte
-#[tactic(auto, using(crate::proofs::OpLists::behind_alone))]
+#[inline(always)]
+#[tactic(auto, using(crate::proofs::OpLists::behind_saturation))]
 fn prefixed(profile: Profile, bytes: &[u8], at: usize, depth: u32) -> Option<Read>
     requires within { at + 1 < length bytes.now }
-    requires prefix { IsTrue (has_prefix profile) }
     requires first { slice_index bytes.now at ≡ 0xFC }
     ensures { IfSome result (λ r. OpUnder profile bytes.now at r.next depth r.depth r.op) }
 {
-    let number = bytes[at + 1];
-    if number >= 0x80 {
-        return None;
-    }
+    let code = 0x100 + u16::from(bytes[at + 1]);
     let left = bytes.len() - at;
-    let (op, next) = match op_behind(profile, u32::from(number)) {
-        OpClass::Plain(Op::Simple(simple)) => (simple, at + 2),
-        OpClass::With(Immediates::MemoryFill) if left > 2 && bytes[at + 2] == 0x00 => {
-            (Simple::MemoryFill, at + 3)
+    let (op, next) = match code {
+        0x100..=0x107 if profile.has(Feature::Saturation) => {
+            let op = Numeric::Saturate(saturation(code));
+            (Simple::Numeric(op), at + 2)
         }
-        OpClass::With(Immediates::MemoryCopy)
-            if left > 3 && bytes[at + 2] == 0x00 && bytes[at + 3] == 0x00 => {
+        0x10A if profile.has(Feature::Copies) => {
+            if left < 4 || bytes[at + 2] != 0x00 || bytes[at + 3] != 0x00 {
+                return None;
+            }
             (Simple::MemoryCopy, at + 4)
+        }
+        0x10B if profile.has(Feature::Copies) => {
+            if left < 3 || bytes[at + 2] != 0x00 {
+                return None;
+            }
+            (Simple::MemoryFill, at + 3)
         }
         _ => return None,
     };
@@ -359,8 +378,7 @@ fn give<S: Sink>(sink: &mut S, room: usize, read: Option<Read>) -> Took
     }
 }
 
-// Takes the instruction behind the byte FC at the index `at`. Out of line, since no other op of `take_uncommon` needs
-// the class of a number
+// Takes the instruction behind the byte FC at the index `at`. Out of line, since it is rare
 #[inline(never)]
 #[tactic(auto, using(crate::proofs::OpLists::gave_took))]
 fn take_prefixed<S: Sink>(
@@ -375,9 +393,6 @@ fn take_prefixed<S: Sink>(
     requires first { slice_index bytes.now at ≡ 0xFC }
     ensures { TookAs S.after profile.now (S.held sink.old) bytes.now at depth room result (S.held sink.new) }
 {
-    if !profile.has_prefix() {
-        return Took::Left;
-    }
     give(sink, room, prefixed(*profile, bytes, at, depth))
 }
 
@@ -398,58 +413,46 @@ fn take_float<S: Sink>(
     if !profile.has(Feature::Floats) {
         return Took::Left;
     }
+    let here = OpStart {
+        profile,
+        bytes,
+        at,
+        depth,
+    };
     let byte = bytes[at];
     match byte {
-        0x2A => {
-            let op = LoadOrStore::Load(LoadOp::F32Load);
-            give(sink, room, access(*profile, bytes, at, depth, op))
-        }
-        0x2B => {
-            let op = LoadOrStore::Load(LoadOp::F64Load);
-            give(sink, room, access(*profile, bytes, at, depth, op))
-        }
-        0x38 => {
-            let op = LoadOrStore::Store(StoreOp::F32Store);
-            give(sink, room, access(*profile, bytes, at, depth, op))
-        }
-        0x39 => {
-            let op = LoadOrStore::Store(StoreOp::F64Store);
-            give(sink, room, access(*profile, bytes, at, depth, op))
-        }
+        0x2A => give(sink, room, access(here, Load(LoadOp::F32Load))),
+        0x2B => give(sink, room, access(here, Load(LoadOp::F64Load))),
+        0x38 => give(sink, room, access(here, Store(StoreOp::F32Store))),
+        0x39 => give(sink, room, access(here, Store(StoreOp::F64Store))),
         0x43 => give(sink, room, float_32(*profile, bytes, at, depth)),
         0x44 => give(sink, room, float_64(*profile, bytes, at, depth)),
         0x5B..=0x60 => {
             let op = Numeric::FloatCompare(F32, float_comparison(byte));
-            give(sink, room, numeric(*profile, bytes, at, depth, op))
+            give(sink, room, numeric(here, op))
         }
         0x61..=0x66 => {
             let op = Numeric::FloatCompare(F64, float_comparison(byte));
-            give(sink, room, numeric(*profile, bytes, at, depth, op))
+            give(sink, room, numeric(here, op))
         }
         0x8B..=0x91 => {
             let op = Numeric::FloatUnary(F32, float_unary(byte));
-            give(sink, room, numeric(*profile, bytes, at, depth, op))
+            give(sink, room, numeric(here, op))
         }
         0x92..=0x98 => {
             let op = Numeric::FloatBinary(F32, float_binary(byte));
-            give(sink, room, numeric(*profile, bytes, at, depth, op))
+            give(sink, room, numeric(here, op))
         }
         0x99..=0x9F => {
             let op = Numeric::FloatUnary(F64, float_unary(byte));
-            give(sink, room, numeric(*profile, bytes, at, depth, op))
+            give(sink, room, numeric(here, op))
         }
         0xA0..=0xA6 => {
             let op = Numeric::FloatBinary(F64, float_binary(byte));
-            give(sink, room, numeric(*profile, bytes, at, depth, op))
+            give(sink, room, numeric(here, op))
         }
-        0xA8..=0xAB => {
-            let op = Numeric::Convert(conversion(byte));
-            give(sink, room, numeric(*profile, bytes, at, depth, op))
-        }
-        0xAE..=0xBF => {
-            let op = Numeric::Convert(conversion(byte));
-            give(sink, room, numeric(*profile, bytes, at, depth, op))
-        }
+        0xA8..=0xAB => give(sink, room, numeric(here, Convert(conversion(byte)))),
+        0xAE..=0xBF => give(sink, room, numeric(here, Convert(conversion(byte)))),
         _ => Took::Left,
     }
 }
@@ -468,59 +471,38 @@ fn take_common<S: Sink>(
     requires { at + 1 < length bytes.now }
     ensures { TookAs S.after profile (S.held sink.old) bytes.now at depth room result (S.held sink.new) }
 {
+    let here = OpStart {
+        profile: &profile,
+        bytes,
+        at,
+        depth,
+    };
     let byte = bytes[at];
     match byte {
-        0x01 => {
-            let op = Op::Simple(Simple::Nop);
-            give(sink, room, alone(profile, bytes, at, depth, op))
-        }
+        0x01 => give(sink, room, alone(here, Op::Simple(Simple::Nop))),
         0x02 => give(sink, room, with_type(bytes, at, depth, BlockOp::Block)),
         0x03 => give(sink, room, with_type(bytes, at, depth, BlockOp::Loop)),
         0x04 => give(sink, room, with_type(bytes, at, depth, BlockOp::If)),
-        0x05 => give(sink, room, alone(profile, bytes, at, depth, Op::Else)),
-        0x0B => give(sink, room, end(profile, bytes, at, depth)),
+        0x05 => give(sink, room, alone(here, Op::Else)),
+        0x0B => give(sink, room, end(here)),
         0x0C => give(sink, room, with_index(bytes, at, depth, Indexed::Br)),
         0x0D => give(sink, room, with_index(bytes, at, depth, Indexed::BrIf)),
-        0x0F => {
-            let op = Op::Simple(Simple::Return);
-            give(sink, room, alone(profile, bytes, at, depth, op))
-        }
+        0x0F => give(sink, room, alone(here, Op::Simple(Simple::Return))),
         0x10 => give(sink, room, with_index(bytes, at, depth, Indexed::Call)),
-        0x1A => {
-            let op = Op::Simple(Simple::Drop);
-            give(sink, room, alone(profile, bytes, at, depth, op))
-        }
+        0x1A => give(sink, room, alone(here, Op::Simple(Simple::Drop))),
         0x20 => give(sink, room, with_index(bytes, at, depth, Indexed::LocalGet)),
         0x21 => give(sink, room, with_index(bytes, at, depth, Indexed::LocalSet)),
         0x22 => give(sink, room, with_index(bytes, at, depth, Indexed::LocalTee)),
         0x23 => give(sink, room, with_index(bytes, at, depth, Indexed::GlobalGet)),
         0x24 => give(sink, room, with_index(bytes, at, depth, Indexed::GlobalSet)),
-        0x28 => {
-            let op = LoadOrStore::Load(LoadOp::I32Load);
-            give(sink, room, access(profile, bytes, at, depth, op))
-        }
-        0x36 => {
-            let op = LoadOrStore::Store(StoreOp::I32Store);
-            give(sink, room, access(profile, bytes, at, depth, op))
-        }
+        0x28 => give(sink, room, access(here, Load(LoadOp::I32Load))),
+        0x36 => give(sink, room, access(here, Store(StoreOp::I32Store))),
         0x41 => give(sink, room, const_32(bytes, at, depth)),
         0x42 => give(sink, room, const_64(bytes, at, depth)),
-        0x45 => {
-            let op = Numeric::Test(I32);
-            give(sink, room, numeric(profile, bytes, at, depth, op))
-        }
-        0x46..=0x4F => {
-            let op = Numeric::Compare(I32, comparison(byte));
-            give(sink, room, numeric(profile, bytes, at, depth, op))
-        }
-        0x6A..=0x78 => {
-            let op = Numeric::Binary(I32, binary(byte));
-            give(sink, room, numeric(profile, bytes, at, depth, op))
-        }
-        0x7C..=0x8A => {
-            let op = Numeric::Binary(I64, binary(byte));
-            give(sink, room, numeric(profile, bytes, at, depth, op))
-        }
+        0x45 => give(sink, room, numeric(here, Test(I32))),
+        0x46..=0x4F => give(sink, room, numeric(here, Compare(I32, comparison(byte)))),
+        0x6A..=0x78 => give(sink, room, numeric(here, Binary(I32, binary(byte)))),
+        0x7C..=0x8A => give(sink, room, numeric(here, Binary(I64, binary(byte)))),
         _ => Took::Left,
     }
 }
@@ -540,73 +522,36 @@ fn take_uncommon<S: Sink>(
     requires { at + 1 < length bytes.now }
     ensures { TookAs S.after profile.now (S.held sink.old) bytes.now at depth room result (S.held sink.new) }
 {
+    let here = OpStart {
+        profile,
+        bytes,
+        at,
+        depth,
+    };
     let byte = bytes[at];
     match byte {
-        0x00 => {
-            let op = Op::Simple(Simple::Unreachable);
-            give(sink, room, alone(*profile, bytes, at, depth, op))
-        }
-        0x11 => give(sink, room, call_indirect(*profile, bytes, at, depth)),
-        0x1B => {
-            let op = Op::Simple(Simple::Select);
-            give(sink, room, alone(*profile, bytes, at, depth, op))
-        }
-        0x29 => {
-            let op = LoadOrStore::Load(LoadOp::I64Load);
-            give(sink, room, access(*profile, bytes, at, depth, op))
-        }
-        0x2C..=0x2F => {
-            let op = LoadOrStore::Load(narrow_load(byte));
-            give(sink, room, access(*profile, bytes, at, depth, op))
-        }
-        0x30..=0x35 => {
-            let op = LoadOrStore::Load(narrow_load(byte));
-            give(sink, room, access(*profile, bytes, at, depth, op))
-        }
-        0x37 => {
-            let op = LoadOrStore::Store(StoreOp::I64Store);
-            give(sink, room, access(*profile, bytes, at, depth, op))
-        }
-        0x3A..=0x3E => {
-            let op = LoadOrStore::Store(narrow_store(byte));
-            give(sink, room, access(*profile, bytes, at, depth, op))
-        }
+        0x00 => give(sink, room, alone(here, Op::Simple(Simple::Unreachable))),
+        0x11 => give(sink, room, call_indirect(here)),
+        0x1B => give(sink, room, alone(here, Op::Simple(Simple::Select))),
+        0x29 => give(sink, room, access(here, Load(LoadOp::I64Load))),
+        0x2C..=0x2F => give(sink, room, access(here, Load(narrow_load(byte)))),
+        0x30..=0x35 => give(sink, room, access(here, Load(narrow_load(byte)))),
+        0x37 => give(sink, room, access(here, Store(StoreOp::I64Store))),
+        0x3A..=0x3E => give(sink, room, access(here, Store(narrow_store(byte)))),
         0x3F => give(sink, room, memory(bytes, at, depth, MemoryOp::Size)),
         0x40 => give(sink, room, memory(bytes, at, depth, MemoryOp::Grow)),
-        0x50 => {
-            let op = Numeric::Test(I64);
-            give(sink, room, numeric(*profile, bytes, at, depth, op))
-        }
-        0x51..=0x5A => {
-            let op = Numeric::Compare(I64, comparison(byte));
-            give(sink, room, numeric(*profile, bytes, at, depth, op))
-        }
-        0x67..=0x69 => {
-            let op = Numeric::Unary(I32, unary(byte));
-            give(sink, room, numeric(*profile, bytes, at, depth, op))
-        }
-        0x79..=0x7B => {
-            let op = Numeric::Unary(I64, unary(byte));
-            give(sink, room, numeric(*profile, bytes, at, depth, op))
-        }
-        0xA7 => {
-            let op = Numeric::Wrap;
-            give(sink, room, numeric(*profile, bytes, at, depth, op))
-        }
-        0xAC => {
-            let op = Numeric::ExtendS;
-            give(sink, room, numeric(*profile, bytes, at, depth, op))
-        }
-        0xAD => {
-            let op = Numeric::ExtendU;
-            give(sink, room, numeric(*profile, bytes, at, depth, op))
-        }
+        0x50 => give(sink, room, numeric(here, Test(I64))),
+        0x51..=0x5A => give(sink, room, numeric(here, Compare(I64, comparison(byte)))),
+        0x67..=0x69 => give(sink, room, numeric(here, Unary(I32, unary(byte)))),
+        0x79..=0x7B => give(sink, room, numeric(here, Unary(I64, unary(byte)))),
+        0xA7 => give(sink, room, numeric(here, Wrap)),
+        0xAC => give(sink, room, numeric(here, ExtendS)),
+        0xAD => give(sink, room, numeric(here, ExtendU)),
         0xC0..=0xC4 => {
             if !profile.has(Feature::SignExtension) {
                 return Took::Left;
             }
-            let op = Numeric::SignExtend(sign_extension(byte));
-            give(sink, room, numeric(*profile, bytes, at, depth, op))
+            give(sink, room, numeric(here, SignExtend(sign_extension(byte))))
         }
         0xFC => take_prefixed(sink, profile, bytes, at, depth, room),
         _ => take_float(sink, profile, bytes, at, depth, room),

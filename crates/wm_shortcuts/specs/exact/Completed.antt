@@ -6,6 +6,7 @@ use Rattle.wm_syntax.specs.declared.why.Why.{Why}
 use Rattle.wm_syntax.specs.exact.Reading.{fresh}
 use Rattle.wm_machine.specs.declared.machine.NameKind.{NameKind}
 use Rattle.wm_machine.specs.declared.machine.Plain.{Plain}
+use Rattle.wm_machine.specs.declared.machine.Counts.{Counts}
 use Rattle.wm_machine.specs.declared.machine.Machine.{Machine}
 use Rattle.wm_machine.specs.declared.machine.Machine.TheVariants as machine
 use Rattle.wm_machine.specs.declared.machine.member.SectionKind.{SectionKind}
@@ -56,7 +57,7 @@ pub data Completes (p : Profile) (bytes : List ℕ) (start : ℕ) (m : Machine) 
       → refusal_in_machine n ≡ None → step_of p n (slice_index bytes i) ≡ (o, part_event x)
       → Completes p bytes start m (with_last last xs) (completed_part x) (i + 1) o
   one_name : {xs : List Completed} {last : Option Completed} {i : ℕ} (of : SectionKind) (kind : NameKind)
-      (f more left stop : ℕ)
+      (f : Counts) (more left stop : ℕ)
       → Completes p bytes start m xs last i (machine.Section of f more left (at.NameLength kind fresh))
       → NameLies bytes i stop → stop ≤ length bytes → stop ≤ i + more
       → ((n : ℕ) → machine_in_member of f (suc n) left (after_name kind)

@@ -10,7 +10,7 @@ use Rattle.wm_machine.specs.exact.MemberSteps.{runs_or_body}
 -- the machine before a run of locals, or before the first op if none is to come
 abbrev pub in_head : InHead → Machine
 in_head i =
-    machine.Section section_kind.Code i.functions i.more i.left (at.Entry i.rest (runs_or_body i.runs))
+    machine.Section section_kind.Code i.counts i.more i.left (at.Entry i.rest (runs_or_body i.runs))
 
 -- the counts there after `used` more bytes, with `runs` runs to come
 abbrev pub head_after : InHead → ℕ → ℕ → InHead

@@ -39,7 +39,7 @@ LiesIn of x = Unit {0}
 
 -- the machine before an index
 abbrev pub before_index : InIndices → Machine
-before_index i = machine.Section i.of i.functions i.more i.left (at_index i.list)
+before_index i = machine.Section i.of i.counts i.more i.left (at_index i.list)
 
 -- how many bytes come after the next in the section, and for labels in the entry too
 abbrev pub room_in : ℕ → IndexList → ℕ
@@ -91,7 +91,7 @@ after_last l n = at.Over
 
 -- the machine after the last index, which has n bytes before its last byte
 abbrev pub indices_ended : InIndices → ℕ → Machine
-indices_ended i n = machine_in_member i.of i.functions (i.more - n) i.left (after_last i.list n)
+indices_ended i n = machine_in_member i.of i.counts (i.more - n) i.left (after_last i.list n)
 
 abbrev pub index_part : IndexList → ℕ → Plain
 index_part list.Types x = plain.Function x

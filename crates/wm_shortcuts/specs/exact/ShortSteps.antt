@@ -1,6 +1,7 @@
 -- Exact answers about one byte of function types and of code entries, with a further byte in the section.
 use Rattle.std.specs.Prelude.{◌≡◌, ℕ, suc, Option, Some, None}
 use Rattle.wm_syntax.specs.declared.profile.Profile.{Profile}
+use Rattle.wm_machine.specs.declared.machine.Counts.{Counts}
 use Rattle.wm_machine.specs.declared.machine.Plain.{Plain}
 use Rattle.wm_machine.specs.declared.machine.Event.{Event}
 use Rattle.wm_machine.specs.declared.machine.Event.TheVariants as event
@@ -18,13 +19,13 @@ part_event (Some part) = event.Complete part
 part_event None = event.Nothing
 
 abbrev pub standing : Place → Machine
-standing p = machine.Section p.of p.functions p.more p.left p.at
+standing p = machine.Section p.of p.counts p.more p.left p.at
 
-abbrev pub after_stepped : SectionKind → ℕ → ℕ → Stepped → Machine
-after_stepped of functions more s = machine.Section of functions more s.left s.at
+abbrev pub after_stepped : SectionKind → Counts → ℕ → Stepped → Machine
+after_stepped of counts more s = machine.Section of counts more s.left s.at
 
 -- under the profile this is the effect of the byte c, if a further byte of the section comes after it
 abbrev pub StepsTo : Profile → SectionKind → ℕ → InMember → ℕ → Stepped → Type 0
-StepsTo p of left at c s = (functions more : ℕ)
-    → step_of p (machine.Section of functions (suc more) left at) c
-    ≡ (after_stepped of functions more s, part_event s.part)
+StepsTo p of left at c s = (counts : Counts) (more : ℕ)
+    → step_of p (machine.Section of counts (suc more) left at) c
+    ≡ (after_stepped of counts more s, part_event s.part)

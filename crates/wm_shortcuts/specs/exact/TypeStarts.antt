@@ -16,7 +16,7 @@ before_results = in_member section_kind.Type (at.ResultCount fresh)
 
 -- the machine before a parameter, or before the result count if none is to come
 abbrev pub in_params : InParams → Machine
-in_params i = machine.Section section_kind.Type i.functions i.more i.left (after_param i.params)
+in_params i = machine.Section section_kind.Type i.counts i.more i.left (after_param i.params)
 
 -- the counts there after `used` more bytes, with `params` parameters to come
 abbrev pub params_after : InParams → ℕ → ℕ → InParams

@@ -9,7 +9,7 @@ use Rattle.wm_machine.specs.exact.Members.{member_at_start}
 
 -- the machine with this state in a member, and the machine before a member
 abbrev pub in_member : SectionKind → InMember → InSection → Machine
-in_member of at i = machine.Section of i.functions i.more i.left at
+in_member of at i = machine.Section of i.counts i.more i.left at
 
 abbrev pub before_member : SectionKind → InSection → Machine
 before_member of i = in_member of (member_at_start of) i

@@ -1,6 +1,6 @@
 -- Exact answers about numbers and ops that lie whole in a list of bytes, as the slow path reads them.
 use Rattle.std.specs.Prelude.{◌≡◌, ◌≢◌, ◌≤◌, ◌<◌, ℕ, ◌^◌, nat_lt, if◌then◌else◌, ℤ, pos, ◌-ℤ◌, List, [], ◌∷◌}
-use Rattle.std.specs.Prelude.{length, slice_range, Result, Ok, Err, Option, Some, None as Nothing, slice_get}
+use Rattle.std.specs.Prelude.{length, slice_range, Result, Ok, Err, Option, Some, None as Nothing, slice_get, slice_index}
 use Rattle.wm_syntax.specs.declared.why.Why.{Why}
 use Rattle.wm_syntax.specs.declared.why.Why.TheVariants as why
 use Rattle.wm_syntax.specs.declared.numbers.Step.{Step}
@@ -9,6 +9,7 @@ use Rattle.wm_syntax.specs.inner.Numbers.{Partial}
 use Rattle.wm_syntax.specs.exact.Reading.{fresh}
 use Rattle.wm_syntax.specs.declared.profile.Profile.{Profile}
 use Rattle.wm_syntax.specs.declared.instructions.Op.{Op}
+use Rattle.wm_machine.specs.declared.machine.Counts.{Counts}
 use Rattle.wm_machine.specs.declared.machine.Machine.{Machine}
 use Rattle.wm_machine.specs.declared.machine.Machine.TheVariants as machine
 use Rattle.wm_machine.specs.declared.machine.member.SectionKind.{SectionKind}
@@ -16,6 +17,7 @@ use Rattle.wm_machine.specs.declared.machine.member.InMember.TheVariants as at
 use Rattle.wm_machine.specs.declared.machine.member.InEntry.TheVariants as entry
 use Rattle.wm_machine.specs.declared.step.expressions.InExpression.TheVariants as expression
 use Rattle.wm_shortcuts.specs.declared.in_body.InBody.{InBody}
+use Rattle.wm_shortcuts.specs.declared.whole_ops.OpStart.{OpStart}
 use Rattle.wm_shortcuts.specs.declared.whole_ops.Read.{Read}
 use Rattle.wm_shortcuts.specs.declared.whole_ops.Took.{Took}
 use Rattle.wm_shortcuts.specs.declared.whole_ops.Took.TheVariants as took
@@ -98,6 +100,14 @@ pub record OpUnder (p : Profile) (bytes : List ℕ) (start next depth inside : �
   pub spelled : IsOp p First (slice_range bytes start next) o
   pub opens : after_op depth o ≡ at_next_op inside
 
+-- what was read of the op that begins here
+abbrev pub OpFrom : OpStart → Read → Type 0
+OpFrom s r = OpUnder s.profile.now s.bytes.now s.at r.next s.depth r.depth r.op
+
+-- the class of the op that begins here
+abbrev pub class_at : OpStart → OpClass
+class_at s = class_row s.profile.now (slice_index s.bytes.now s.at)
+
 -- the result of passing to the sink the op that was read, if it ends within `room` bytes
 abbrev pub GaveAs : {H : Type 0} → (H → Item → Result H Why) → H → ℕ → Option Read → Took → H → Type 0
 GaveAs after h room (Some r) (took.Next n d) g = (r.next ≡ n) × (r.depth ≡ d) × (n ≤ room)
@@ -137,9 +147,9 @@ RanTo {H} after p h bytes room start used depth (Some w) g =
     × (w ≢ why.Memory → after f (body_op o) ≡ Err w)
 
 -- the machine inside an op of a code entry
-abbrev pub in_body : SectionKind → ℕ → ℕ → ℕ → ℕ → ℕ → InOp → Machine
-in_body of functions more left rest depth q =
-    machine.Section of functions more left (at.Entry rest (entry.Body (expression.Op depth q)))
+abbrev pub in_body : SectionKind → Counts → ℕ → ℕ → ℕ → ℕ → InOp → Machine
+in_body of counts more left rest depth q =
+    machine.Section of counts more left (at.Entry rest (entry.Body (expression.Op depth q)))
 
 abbrev pub before_op : InBody → Machine
-before_op b = in_body b.of b.functions b.more b.left b.rest b.depth First
+before_op b = in_body b.of b.counts b.more b.left b.rest b.depth First

@@ -14,7 +14,7 @@ returns-then-end-bytes g c =
     let held = g.S.Sink.held in
     advances_by g.S.Sink.after g.S.Sink.may_run_out c.args.profile _ _ _ _ _ _ _ _ (q.ensures ∙ ap (λ y. in_member q.of y i) c.in-Data.is)
     (c.at.ensures ∙ ap (in_member q.of (at.Data (c.in-Data.rest - c.min_len-count.result))) c.after-next.ensures)
-    (advances_data g.S.Sink.after g.S.Sink.may_run_out c.args.profile c.args.bytes.now (held c.args.sink.now) (held c.give_bytes.new.sink) _ q.of i.functions i.left i.more c.in-Data.rest
+    (advances_data g.S.Sink.after g.S.Sink.may_run_out c.args.profile c.args.bytes.now (held c.args.sink.now) (held c.give_bytes.new.sink) _ q.of i.counts i.left i.more c.in-Data.rest
     c.give_bytes.result (omega arith) (omega arith) (omega arith) (omega arith) c.err-refused.ensures.value c.give_bytes.ensures.given c.give_bytes.ensures.room)
 
 pub returns-in-Err : goal.returns-in-Err
@@ -24,7 +24,7 @@ returns-in-Err g c =
     let held = g.S.Sink.held in
     let out = c.in-Err.ensures in
     advances_by g.S.Sink.after g.S.Sink.may_run_out c.args.profile _ _ _ _ _ _ _ _ (q.ensures ∙ ap (λ y. in_member q.of y i) c.in-Data.is) refl
-    (advances_data_out g.S.Sink.after g.S.Sink.may_run_out c.args.profile c.args.bytes.now (held c.args.sink.now) (held c.give_bytes-2.new.sink) c.out.result q.of i.functions i.left i.more c.in-Data.rest
+    (advances_data_out g.S.Sink.after g.S.Sink.may_run_out c.args.profile c.args.bytes.now (held c.args.sink.now) (held c.give_bytes-2.new.sink) c.out.result q.of i.counts i.left i.more c.in-Data.rest
     c.framed.result c.min_len-count.result c.in-Err.why c.out.ensures.used (omega arith) c.out.ensures.refused out.given (λ one. out.room one out.given))
 
 pub returns : goal.returns
@@ -33,7 +33,7 @@ returns g c =
     let i = c.in-Some.start in
     let held = g.S.Sink.held in
     let used = c.min_len-count.result in
-    let next = c.framed.ensures ∙ (ap (λ (n : InSection). machine_in_member q.of n.functions n.more n.left c.data_or_over.result) c.after-next.ensures ∙ ap (machine_in_member q.of i.functions (i.more - used) i.left) c.data_or_over.ensures) in
+    let next = c.framed.ensures ∙ (ap (λ (n : InSection). machine_in_member q.of n.counts n.more n.left c.data_or_over.result) c.after-next.ensures ∙ ap (machine_in_member q.of i.counts (i.more - used) i.left) c.data_or_over.ensures) in
     advances_by g.S.Sink.after g.S.Sink.may_run_out c.args.profile _ _ _ _ _ _ _ _ (q.ensures ∙ ap (λ y. in_member q.of y i) c.in-Data.is) next
-    (advances_data_end g.S.Sink.after g.S.Sink.may_run_out c.args.profile c.args.bytes.now (held c.args.sink.now) (held c.give_bytes-2.new.sink) _ q.of i.functions i.left i.more c.in-Data.rest
+    (advances_data_end g.S.Sink.after g.S.Sink.may_run_out c.args.profile c.args.bytes.now (held c.args.sink.now) (held c.give_bytes-2.new.sink) _ q.of i.counts i.left i.more c.in-Data.rest
     used refl (omega arith) (omega arith) (omega arith) (c.refusal_of.ensures ∙ ap refusal_in_machine next) c.in_default-give_bytes.ensures.given)

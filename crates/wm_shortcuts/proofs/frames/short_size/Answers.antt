@@ -9,21 +9,21 @@ pub returns-then-bytes-lt128-clause-leads : goal.returns-then-bytes-lt128-clause
 returns-then-bytes-lt128-clause-leads c =
     let a = c.args in
     let b = a.bytes.now in
-    let size = machine.Size a.of a.functions fresh in
-    let count = machine.Count a.of a.functions c.in_ok-more.more fresh in
+    let size = machine.Size a.of a.counts fresh in
+    let count = machine.Count a.of a.counts c.in_ok-more.more fresh in
     frames_more a.profile b a.machine.now size count 1
     (frames_more a.profile b a.machine.now a.machine.now size 0 (frames_none a.profile b a.machine.now) (omega arith) c.requires.begun)
-    (omega arith) (subst (λ n. IsFrameStep (machine.Size a.of a.functions n) (slice_index b 1) count) c.new-number.ensures.fresh c.in_ok-more.ensures)
+    (omega arith) (subst (λ n. IsFrameStep (machine.Size a.of a.counts n) (slice_index b 1) count) c.new-number.ensures.fresh c.in_ok-more.ensures)
 
 pub returns-clause-leads : goal.returns-clause-leads
 returns-clause-leads c =
     let a = c.args in
     let b = a.bytes.now in
-    let size = machine.Size a.of a.functions fresh in
-    let longer = machine.Size a.of a.functions c.in_ok-number.number in
-    let count = machine.Count a.of a.functions c.in_ok-more-2.more fresh in
+    let size = machine.Size a.of a.counts fresh in
+    let longer = machine.Size a.of a.counts c.in_ok-number.number in
+    let count = machine.Count a.of a.counts c.in_ok-more-2.more fresh in
     frames_more a.profile b a.machine.now longer count 2
     (frames_more a.profile b a.machine.now size longer 1
     (frames_more a.profile b a.machine.now a.machine.now size 0 (frames_none a.profile b a.machine.now) (omega arith) c.requires.begun)
-    (omega arith) (subst (λ n. IsFrameStep (machine.Size a.of a.functions n) (slice_index b 1) longer) c.new-number.ensures.fresh c.in_ok-number.ensures))
+    (omega arith) (subst (λ n. IsFrameStep (machine.Size a.of a.counts n) (slice_index b 1) longer) c.new-number.ensures.fresh c.in_ok-number.ensures))
     (omega arith) c.in_ok-more-2.ensures

@@ -11,4 +11,4 @@ pub returns-then-bytes-eq0 : goal.returns-then-bytes-eq0
 returns-then-bytes-eq0 g c =
     let i = c.args.start in
     let all : i.more - 0 ≡ i.more = omega arith in
-    first_taken c.requires.machine (results_over i (omega arith) (omega (arith, c.requires.within))) (omega arith) nothing c.ended.ensures.used c.give_result_count-given.result _ (c.over.ensures ∙ ap (λ n. machine_in_member section_kind.Type i.functions n i.left at.Over) all) c.ended.ensures.refused c.give_result_count-given.ensures.given c.give_result_count-given.ensures.room
+    first_taken c.requires.machine (results_over i (omega arith) (omega (arith, c.requires.within))) (omega arith) nothing c.ended.ensures.used c.give_result_count-given.result _ (c.over.ensures ∙ ap (λ n. machine_in_member section_kind.Type i.counts n i.left at.Over) all) c.ended.ensures.refused c.give_result_count-given.ensures.given c.give_result_count-given.ensures.room

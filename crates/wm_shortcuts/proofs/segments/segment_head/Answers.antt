@@ -41,5 +41,5 @@ returns g c =
     let third : x.head.offset.stop + 1 < x.head.next = x.ensures.size.some in
     let all : x.head.next ≤ length c.args.bytes.now = x.ensures.size.within in
     let rest = i.more - (x.head.next - 1) in
-    let next = c.framed.ensures ∙ (ap (λ y. machine_in_member y i.functions rest i.left c.after_head-at.result) c.section.ensures ∙ ap (machine_in_member (section_of b.of) i.functions rest i.left) c.after_head-at.ensures) in
+    let next = c.framed.ensures ∙ (ap (λ y. machine_in_member y i.counts rest i.left c.after_head-at.result) c.section.ensures ∙ ap (machine_in_member (section_of b.of) i.counts rest i.left) c.after_head-at.ensures) in
     first_taken c.in-Some.ensures (head_sized b.of b.place x.ensures.index x.ensures.op (omega arith) x.ensures.end (omega arith) (omega arith) rest x.ensures.size (omega arith)) (omega arith) (also (also (also nothing (rw (← c.item.ensures) c.in_default-give.ensures.given)) c.in_default-give-2.ensures.given) c.in_default-give-3.ensures.given) refl ok _ next c.refusal_of.ensures refl tt

@@ -5,7 +5,8 @@ use Rattle.wm_shortcuts.proofs.whole_ops.access.Goals as goal
 
 pub returns : goal.returns
 returns c =
+    let h = c.args.here in
     let a = c.in_ok-align.align in
     let o = c.in_ok-offset.offset in
-    subst (λ v. OpUnder c.args.profile c.args.bytes.now c.args.at o.next c.args.depth c.args.depth v) (sym c.op.ensures)
-    (under_access c.args.profile c.args.bytes.now c.args.at a.next o.next c.args.depth a.value o.value c.args.op c.requires.class c.in_ok-align.ensures c.in_ok-offset.ensures)
+    subst (λ v. OpUnder h.profile.now h.bytes.now h.at o.next h.depth h.depth v) (sym c.op.ensures)
+    (under_access h.profile.now h.bytes.now h.at a.next o.next h.depth a.value o.value c.args.op c.requires.class c.in_ok-align.ensures c.in_ok-offset.ensures)

@@ -1,11 +1,18 @@
-use Rattle.std.proofs.Common.{arith, sym, ap, ◌∙◌, ◌+◌}
-use Rattle.wm_syntax.specs.declared.instructions.op_class.OpClass.TheVariants as class
-use Rattle.wm_syntax.specs.exact.ByteTable.{class_under}
-use Rattle.wm_shortcuts.proofs.OpLists.{behind_copy}
+use Rattle.std.proofs.Common.{◌+◌, ◌∙◌, arith, sym}
+use Rattle.wm_shortcuts.proofs.OpLists.{behind_copy, behind_fill, behind_saturation}
 use Rattle.wm_shortcuts.proofs.whole_ops.prefixed.Goals as goal
 
-pub returns-in-With-MemoryCopy : goal.returns-in-With-MemoryCopy
-returns-in-With-MemoryCopy c =
-    behind_copy c.args.profile c.args.bytes.now c.args.at c.args.depth c.requires.within c.requires.prefix c.requires.first (omega arith)
-    (ap class.With (sym c.in-With-MemoryCopy.field-0-is) ∙ (sym c.in-With-MemoryCopy.is ∙ (c.op_behind.ensures.exact ∙ ap (λ n. class_under c.args.profile (0x100 + n)) c.from.ensures)))
-    (omega arith) c.if-bytes-at-eq0-2.true c.if-bytes-at-eq0-3.true
+pub returns-in-256-to-263 : goal.returns-in-256-to-263
+returns-in-256-to-263 c =
+    behind_saturation c.args.profile c.args.bytes.now c.args.at c.args.depth (0x100 + c.from-code.result) c.requires.within c.requires.first (omega arith) (omega arith) c.saturation.result c.saturation.ensures
+    (sym c.has-then-code-lt264.ensures ∙ c.if-has-3.true)
+
+pub returns-else-bytes-at-ne0-2 : goal.returns-else-bytes-at-ne0-2
+returns-else-bytes-at-ne0-2 c =
+    behind_copy c.args.profile c.args.bytes.now c.args.at c.args.depth (0x100 + c.from-code.result) c.requires.within c.requires.first (omega arith) (omega arith) c.in-266.is
+    (sym c.has.ensures ∙ c.if-has.true) (omega arith) (omega arith) (omega arith)
+
+pub returns-else-bytes-at-ne0-3 : goal.returns-else-bytes-at-ne0-3
+returns-else-bytes-at-ne0-3 c =
+    behind_fill c.args.profile c.args.bytes.now c.args.at c.args.depth (0x100 + c.from-code.result) c.requires.within c.requires.first (omega arith) (omega arith) c.in-267.is
+    (sym c.if-has-2.ensures) (omega arith) (omega arith)
