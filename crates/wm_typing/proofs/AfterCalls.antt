@@ -303,8 +303,3 @@ pub held_context : (c : Context) (x : ℕ) (locals : List ValType) (b : Body) �
 held_context c x locals b a =
     let l = begun_open (body_context c x locals) b.state.table b.state.stacks a.keeps in
     ap (λ v. body_context c v b.declared) a.type_index ∙ ap (λ v. body_context c x v) (a.declared l)
-
-pub held_few : (c : Context) (x : ℕ) (locals : List ValType) (b : Body) → BodyAfter c x locals [] b → length locals < 2 ^ 32 → length b.declared < 2 ^ 32
-held_few c x locals b a h =
-    let l = begun_open (body_context c x locals) b.state.table b.state.stacks a.keeps in
-    let e = ap length (a.declared l) in omega (arith, e, h)

@@ -265,10 +265,7 @@ small_numeric num.Wrap = tt
 small_numeric num.ExtendS = tt
 small_numeric num.ExtendU = tt
 small_numeric (num.SignExtend ext.I32From8) = tt
-small_numeric (num.SignExtend ext.I32From16) = tt
-small_numeric (num.SignExtend ext.I64From8) = tt
-small_numeric (num.SignExtend ext.I64From16) = tt
-small_numeric (num.SignExtend ext.I64From32) = tt
+small_numeric (num.SignExtend _) = tt
 small_numeric (num.Saturate sat.I32TruncSatF32S) = tt
 small_numeric (num.Saturate _) = tt
 

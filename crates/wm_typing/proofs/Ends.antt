@@ -7,10 +7,9 @@ use Rattle.wm_syntax.specs.declared.instructions.Op.{Op}
 use Rattle.wm_typing.specs.Typing.{Context}
 use Rattle.wm_typing.specs.Contexts.{body_context}
 use Rattle.wm_syntax.specs.Modules.{locals_of}
-use Rattle.wm_typing.specs.Bodies.{Body, body_entries}
+use Rattle.wm_typing.specs.Bodies.{Body}
 use Rattle.wm_typing.specs.TypedBodies.{HaveTyping, IsTypedBody}
 use Rattle.wm_typing.specs.inner.Checking.{BodyAfter}
-use Rattle.wm_typing.proofs.FewRuns.{run_count_le}
 use Rattle.wm_typing.proofs.StacksAfterOps.{body_can, ended_none, refused_on, unfinished}
 
 -- the first so many, and the next
@@ -50,14 +49,6 @@ whole_taken ops i l = take_all i ops l
 pub open_body : (c : Context) (x : ℕ) (locals : List ValType) (ops : List Op) (b : Body) → BodyAfter c x locals ops b → 0 < length b.state.stacks.frames
     → IsTypedBody (body_context c x locals) ops → ⊥
 open_body c x locals ops b a l h = unfinished (body_context c x locals) ops b.state.table b.state.stacks a.keeps l refl h
-
--- what is kept is little
-pub kept_little : (c : Context) (x : ℕ) (locals : List ValType) (ops : List Op) (b : Body) → BodyAfter c x locals ops b → 0 < length b.state.stacks.frames
-    → length locals < 2 ^ 32 → length ops < 2 ^ 62 → body_entries b < 2 ^ 63
-kept_little c x locals ops b a l few m =
-    let r = run_count_le b.declared in
-    let e : length b.declared ≡ length locals = ap length (a.declared l) in
-    omega (arith, r, e, few, m, a.within.heights)
 
 -- runs of locals
 expanded-append : (xs ys : List (ℕ × ValType)) → locals_of (xs ++ ys) ≡ locals_of xs ++ locals_of ys

@@ -69,9 +69,7 @@ fn declare_all(checker: &mut BodyChecker, runs: &[(u32, ValType)]) -> Result<(),
 
 // Takes all ops. Fails with `BodyEnd` if the body does not end with the last op.
 fn step_all(checker: &mut BodyChecker, context: &Context<'_>, ops: &[Op]) -> Result<(), Why>
-    requires begun { BodyAfter context.now checker.old.type_index checker.old.declared [] checker.old }
-    requires few { length checker.old.declared < 2 ^ 32 }
-    requires bounded { length ops.now < 2 ^ 62 }
+    requires { BodyAfter context.now checker.old.type_index checker.old.declared [] checker.old }
     ensures typed { MatchResult result
         (λ _. IsTypedBody (body_context context.now checker.old.type_index checker.old.declared) ops.now)
         (λ why. (why ≡ Why.Memory)

@@ -4,7 +4,7 @@ use Rattle.std.proofs.lemmas.Result.{err_from_is_err_and}
 use Rattle.wm_typing.specs.TypedBodies.{IsTypedBody}
 use Rattle.wm_typing.specs.Bodies.{Twice}
 use Rattle.wm_syntax.specs.Modules.{locals_of}
-use Rattle.wm_typing.proofs.AfterCalls.{as_held, held_context, held_few, controls_said, twice_said}
+use Rattle.wm_typing.proofs.AfterCalls.{as_held, held_context, controls_said, twice_said}
 use Rattle.wm_typing.proofs.bodies.check_body.Goals as goal
 
 pub returns-in_err-declare_all-clause-typed : goal.returns-in_err-declare_all-clause-typed
@@ -13,16 +13,10 @@ returns-in_err-declare_all-clause-typed c =
     rw (p.1, p.2)
     (elim (c.in_err-declare_all.ensures.too_many c.args.context.now c.args.type_index c.begin.ensures.after) [ inl m ↦ inl m | inr n ↦ inr (inl n) ])
 
-pub step_all-requires-clause-begun : goal.step_all-requires-clause-begun
-step_all-requires-clause-begun c =
+pub step_all-requires : goal.step_all-requires
+step_all-requires c =
     as_held c.args.context.now c.args.type_index (locals_of c.args.runs.now) c.declare_all.new.checker
     (c.in_ok-declare_all.ensures.after c.args.context.now c.args.type_index c.begin.ensures.after)
-
-pub step_all-requires-clause-few : goal.step_all-requires-clause-few
-step_all-requires-clause-few c =
-    held_few c.args.context.now c.args.type_index (locals_of c.args.runs.now) c.declare_all.new.checker
-    (c.in_ok-declare_all.ensures.after c.args.context.now c.args.type_index c.begin.ensures.after)
-    (c.in_ok-declare_all.ensures.few c.args.context.now c.args.type_index c.begin.ensures.after)
 
 pub returns-in_err-step_all-clause-typed : goal.returns-in_err-step_all-clause-typed
 returns-in_err-step_all-clause-typed c =

@@ -11,27 +11,27 @@ returns-clause-within c x locals ops a =
 
 pub returns-clause-after : goal.returns-clause-after
 returns-clause-after c x locals ops a =
-    after_said c.args.context.now x locals ops c.args.self.now c.args.op c.advance.new.self a (c.requires.open a.unrefused)
+    after_said c.args.context.now x locals ops c.args.self.now c.args.op c.advance.new.self a (c.requires a.unrefused)
     (returns-clause-within c x locals ops a) c.advance.result c.advance.ensures.exact
 
 pub returns-clause-typed : goal.returns-clause-typed
 returns-clause-typed c x locals ops a =
-    typed_said c.args.context.now x locals ops c.args.self.now c.args.op c.advance.new.self a (c.requires.open a.unrefused)
+    typed_said c.args.context.now x locals ops c.args.self.now c.args.op c.advance.new.self a (c.requires a.unrefused)
     (returns-clause-within c x locals ops a) c.advance.result c.advance.ensures.exact
 
 pub returns-clause-ended : goal.returns-clause-ended
 returns-clause-ended c x locals ops a =
-    ended_said c.args.context.now x locals ops c.args.self.now c.args.op c.advance.new.self a (c.requires.open a.unrefused)
+    ended_said c.args.context.now x locals ops c.args.self.now c.args.op c.advance.new.self a (c.requires a.unrefused)
     (returns-clause-within c x locals ops a) c.advance.result c.advance.ensures.exact c.advance.ensures.progress
 
 pub returns-clause-denotes : goal.returns-clause-denotes
 returns-clause-denotes c x locals ops a i =
-    denotes_said c.args.context.now x locals ops c.args.self.now c.args.op c.advance.new.self a (c.requires.open a.unrefused)
+    denotes_said c.args.context.now x locals ops c.args.self.now c.args.op c.advance.new.self a (c.requires a.unrefused)
     (returns-clause-within c x locals ops a) c.advance.result c.advance.ensures.exact c.advance.ensures.progress i
 
 pub returns-clause-empty : goal.returns-clause-empty
 returns-clause-empty c x locals ops a i =
-    empty_said c.args.context.now x locals ops c.args.self.now c.args.op c.advance.new.self a (c.requires.open a.unrefused)
+    empty_said c.args.context.now x locals ops c.args.self.now c.args.op c.advance.new.self a (c.requires a.unrefused)
     (returns-clause-within c x locals ops a) c.advance.result c.advance.ensures.exact c.advance.ensures.progress i
 
 pub returns-clause-nested : goal.returns-clause-nested
@@ -42,5 +42,5 @@ returns-clause-controls c x locals ops a = on_ok c.advance.result (returns-claus
 
 pub returns-clause-twice : goal.returns-clause-twice
 returns-clause-twice c x locals ops a i =
-    ended_twice c.args.context.now x locals ops c.args.self.now c.args.op c.advance.new.self a (c.requires.open a.unrefused)
+    ended_twice c.args.context.now x locals ops c.args.self.now c.args.op c.advance.new.self a (c.requires a.unrefused)
     (returns-clause-within c x locals ops a) c.advance.result c.advance.ensures.exact c.advance.ensures.progress i
