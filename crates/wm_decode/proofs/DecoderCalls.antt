@@ -10,7 +10,7 @@ use Rattle.wm_machine.specs.declared.machine.Machine.TheVariants as machine
 use Rattle.wm_machine.specs.Items.{Item, Marks, items_at}
 use Rattle.wm_machine.specs.Grammar.{Items}
 use Rattle.wm_machine.specs.Sinks.{and_then, all_taken}
-use Rattle.wm_machine.specs.exact.Live.{Live, IsAt, IsRefused, live_or_refused, decoder_after, live_at_start, Fed, answer_at_end_of, answer_at_end, Finished}
+use Rattle.wm_machine.specs.exact.Live.{Live, answer_between, IsAt, IsRefused, live_or_refused, decoder_after, live_at_start, Fed, answer_at_end_of, answer_at_end, Finished}
 use Rattle.wm_decode.specs.exact.Standing.{state_of}
 use Rattle.wm_machine.specs.Decoding.{Setting, Takes, Refused, NeverFloat, EndsInFloat}
 use Rattle.wm_decode.specs.SoFar.{held_in}
@@ -236,8 +236,11 @@ module _ {S H : Type 0} (held : S → H) (after : H → Item → Result H Why) (
 
     -- a decoder that ends in a refusal has refused already, or stands at the end of what it was fed
     ended_why : (m : Machine) (h : H) (at : ℕ) (r : Refusal) → (IsRefused m → ⊥) → answer_at_end_of m h at ≡ Err r → (at ≡ r.at) × AtEnd r.why
-    ended_why (machine.Between last zero) h at r i e = cc
-    ended_why (machine.Between last (suc n)) h at r i e = let s : record { at = at; why = why.CodeCount } ≡ r = cc in (ap (λ (y : Refusal). y.at) s, inr (sym (ap (λ (y : Refusal). y.why) s)))
+    ended_why (machine.Between last counts) h at r i e = between counts.functions e
+      where
+        between : (n : ℕ) → answer_between n h at ≡ Err r → (at ≡ r.at) × AtEnd r.why
+        between zero e = cc
+        between (suc n) e = let s : record { at = at; why = why.CodeCount } ≡ r = cc in (ap (λ (y : Refusal). y.at) s, inr (sym (ap (λ (y : Refusal). y.why) s)))
     ended_why (machine.Refused w) h at r i e = absurd (i tt)
     ended_why m h at r i e = let s : record { at = at; why = why.Truncated } ≡ r = cc in (ap (λ (y : Refusal). y.at) s, inl (sym (ap (λ (y : Refusal). y.why) s)))
 

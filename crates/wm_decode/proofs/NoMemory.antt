@@ -78,12 +78,12 @@ past p m c behind live =
 pub step_never : (p : Profile) (m : Machine) (c : ℕ) → (IsRefused m → ⊥) → Never (step_of p m c).0
 step_never p (machine.Header n) c live = header_never n c
 step_never p (machine.Refused w) c live = absurd (live tt)
-step_never p (machine.Between last functions) c live = past p (machine.Between last functions) c (λ i. i) live
-step_never p (machine.CustomSize last functions r) c live = past p (machine.CustomSize last functions r) c (λ i. i) live
-step_never p (machine.Custom last functions more q) c live = past p (machine.Custom last functions more q) c (λ i. i) live
-step_never p (machine.Size of functions r) c live = past p (machine.Size of functions r) c (λ i. i) live
-step_never p (machine.Count of functions more r) c live = past p (machine.Count of functions more r) c (λ i. i) live
-step_never p (machine.Section of functions more left q) c live = past p (machine.Section of functions more left q) c (λ i. i) live
+step_never p (machine.Between last counts) c live = past p (machine.Between last counts) c (λ i. i) live
+step_never p (machine.CustomSize last counts r) c live = past p (machine.CustomSize last counts r) c (λ i. i) live
+step_never p (machine.Custom last counts more q) c live = past p (machine.Custom last counts more q) c (λ i. i) live
+step_never p (machine.Size of counts r) c live = past p (machine.Size of counts r) c (λ i. i) live
+step_never p (machine.Count of counts more r) c live = past p (machine.Count of counts more r) c (λ i. i) live
+step_never p (machine.Section of counts more left q) c live = past p (machine.Section of counts more left q) c (λ i. i) live
 
 unrefused : {H : Type 0} (m : Machine) (name : List ℕ) (h : H) (at : ℕ) → elim (live_or_refused m name h at) as (λ _. Option Refusal) [ Ok l ↦ None | Err r ↦ Some r ] ≡ None → IsRefused m → ⊥
 unrefused (machine.Refused w) name h at e i = cc

@@ -16,10 +16,10 @@ use Rattle.wm_machine.proofs.MachineAndSink.{reached, settled_ok}
 use Rattle.wm_decode.proofs.DecoderCalls.{live_after}
 use Rattle.wm_decode.specs.declared.decoder.state.Decoder.{Decoder}
 use Rattle.wm_decode.specs.declared.place.Snapshot.{Snapshot}
-use Rattle.wm_decode.specs.exact.Awaited.{machine_from, spot_in}
+use Rattle.wm_decode.specs.exact.Awaited.{machine_from, place_in}
 use Rattle.wm_decode.specs.exact.Standing.{state_of}
 use Rattle.wm_decode.specs.inner.Decoders.{HasDecoded, refusal_of_decoder}
-use Rattle.wm_decode.specs.inner.Places.{IsAfter, spot_after}
+use Rattle.wm_decode.specs.inner.Places.{IsAfter, place_after}
 
 -- one byte more
 pub from_more : (p : Profile) (m : Machine) (b : List ℕ) (i : ℕ) → i < length b → machine_from p m (take (i + 1) b) ≡ (step_of p (machine_from p m (take i b)) (get_or b i 0)).0
@@ -35,13 +35,13 @@ from_append p m [] b = refl
 from_append p m (c ∷ a) b = from_append p (step_of p m c).0 a b
 
 -- the place of a byte in a piece after these bytes
-pub spot_at : (s : Snapshot) (p : Profile) (bytes piece : List ℕ) (at k : ℕ) (m : Machine) → IsAfter s p bytes → length bytes < at → k ≡ at - 1 - length bytes
-    → m ≡ machine_from s.profile s.machine (take k piece) → spot_in m ≡ spot_after p (take (at - 1) (bytes ++ piece))
-spot_at s p bytes piece at k m a less index e =
+pub place_at : (s : Snapshot) (p : Profile) (bytes piece : List ℕ) (at k : ℕ) (m : Machine) → IsAfter s p bytes → length bytes < at → k ≡ at - 1 - length bytes
+    → m ≡ machine_from s.profile s.machine (take k piece) → place_in m ≡ place_after p (take (at - 1) (bytes ++ piece))
+place_at s p bytes piece at k m a less index e =
     let sum : at - 1 ≡ length bytes + k = omega (arith, less, index) in
     let front : take (at - 1) (bytes ++ piece) ≡ bytes ++ take k piece =
     ap (λ n. take n (bytes ++ piece)) sum ∙ take-append-add bytes piece k in
-    ap spot_in
+    ap place_in
     (e
     ∙ (ap (λ q. machine_from q s.machine (take k piece)) a.profile
     ∙ (ap (λ n. machine_from p n (take k piece)) a.machine
@@ -74,7 +74,7 @@ module _ {S H : Type 0} (held : S → H) (after : H → Item → Result H Why) (
 
   -- a decoder that has refused nothing
   pub is_after : (d : Decoder S) (b : List ℕ) → refusal_of_decoder held d ≡ None → HasDecoded held after d s b
-      → IsAfter (record { profile = d.profile; machine = d.machine; last_member = d.last_member; at = d.at }) s.profile b
+      → IsAfter (record { profile = d.profile; machine = d.machine; at = d.at }) s.profile b
   is_after d b none a =
       let l = live_after held after s d b (unrefused (state_of held d) none) a in
       let same = settled_ok after s.profile s.limit d.machine d.name.items (held d.sink) d.at l.0 l.2 in

@@ -13,9 +13,10 @@ use Rattle.wm_machine.proofs.MachineStates.{Fits, step_fits}
 use Rattle.wm_machine.proofs.OpenMembers.{zeros, zeros_length}
 use Rattle.wm_machine.proofs.OpSound.{HasRoom, last_byte}
 use Rattle.wm_decode.specs.InSections.{LiesIn}
+use Rattle.wm_decode.specs.declared.place.Place.{Place}
 use Rattle.wm_decode.specs.declared.place.awaits.Awaits.{Awaits}
-use Rattle.wm_decode.specs.exact.Awaited.{machine_from, spot_in}
-use Rattle.wm_decode.specs.inner.Places.{spot_after}
+use Rattle.wm_decode.specs.exact.Awaited.{machine_from, place_in}
+use Rattle.wm_decode.specs.inner.Places.{place_after}
 
 zeros_some : (n : ℕ) → zeros (suc n) ≡ [] → ⊥
 zeros_some n e = let l : length (zeros (suc n)) ≡ 0 = ap length e in omega (arith, l, zeros_length (suc n))
@@ -56,26 +57,23 @@ in_contents last id more b h =
       section = (id ∷ [], (h.size ++ h.contents) ++ rest, refl, refl, (h.size, h.contents ++ rest, append_assoc h.size h.contents rest, subst (λ n. SpellsU32 n h.size) same h.number, refl));
     }
 
-abbrev spot : ℕ → Awaits → Option (ℕ × Awaits)
-spot i x = Some (i, x)
-
-abbrev section_of : Option (ℕ × Awaits) → ℕ
+abbrev section_of : Option Place → ℕ
 section_of None = 0
-section_of (Some q) = q.0
+section_of (Some x) = x.section
 
--- two ids of one place
-one_id : (i id : ℕ) (x a : Awaits) (b : List ℕ) → spot i x ≡ spot id a → LiesIn i b → LiesIn id b
-one_id i id x a b e h = let same : i ≡ id = ap section_of e in subst (λ n. LiesIn n b) same h
+-- the section of one place
+one_id : (i : ℕ) (item : Option ℕ) (a : Awaits) (place : Place) (b : List ℕ) → Some (record { section = i; item = item; awaits = a }) ≡ Some place → LiesIn i b → LiesIn place.section b
+one_id i item a place b e h = subst (λ n. LiesIn n b) (ap section_of e) h
 
-by_machine : (p : Profile) (m : Machine) (b : List ℕ) (id : ℕ) (a : Awaits) → Fits p m → Framed m b → spot_in m ≡ Some (id, a) → LiesIn id b
-by_machine p (machine.Header n) b id a fits h e = absurd (cc)
-by_machine p (machine.Between last functions) b id a fits h e = absurd (cc)
-by_machine p (machine.CustomSize last functions r) b id a fits h e = one_id 0 id _ a b e (in_size last 0 r b fits.0 h.0)
-by_machine p (machine.Custom last functions more q) b id a fits h e = one_id 0 id _ a b e (in_contents last 0 more b h.0)
-by_machine p (machine.Size of functions r) b id a fits h e = one_id (id_of of) id _ a b e (in_size h.0 (id_of of) r b fits.0 h.2)
-by_machine p (machine.Count of functions more r) b id a fits h e = one_id (id_of of) id _ a b e (in_contents h.0 (id_of of) more b h.2)
-by_machine p (machine.Section of functions more left q) b id a fits h e = one_id (id_of of) id _ a b e (in_contents h.0 (id_of of) more b h.2)
-by_machine p (machine.Refused w) b id a fits h e = absurd (cc)
+by_machine : (p : Profile) (m : Machine) (b : List ℕ) (place : Place) → Fits p m → Framed m b → place_in m ≡ Some place → LiesIn place.section b
+by_machine p (machine.Header n) b place fits h e = absurd (cc)
+by_machine p (machine.Between last counts) b place fits h e = absurd (cc)
+by_machine p (machine.CustomSize last counts r) b place fits h e = one_id 0 _ _ place b e (in_size last 0 r b fits.0 h.0)
+by_machine p (machine.Custom last counts more q) b place fits h e = one_id 0 _ _ place b e (in_contents last 0 more b h.0)
+by_machine p (machine.Size of counts r) b place fits h e = one_id (id_of of) _ _ place b e (in_size h.0 (id_of of) r b fits.0 h.2)
+by_machine p (machine.Count of counts more r) b place fits h e = one_id (id_of of) _ _ place b e (in_contents h.0 (id_of of) more b h.2)
+by_machine p (machine.Section of counts more left q) b place fits h e = one_id (id_of of) _ _ place b e (in_contents h.0 (id_of of) more b h.2)
+by_machine p (machine.Refused w) b place fits h e = absurd (cc)
 
 -- the machine after any bytes
 framed : (p : Profile) (m : Machine) (before b : List ℕ) → AreBytes b → Fits p m → Framed m before → Fits p (machine_from p m b) × Framed (machine_from p m b) (before ++ b)
@@ -84,8 +82,8 @@ framed p m before (c ∷ b) a fits f =
     let r = framed p (step_of p m c).0 (before ++ c ∷ []) b a.1 (step_fits p m c a.0 fits) (step_framed p m c before a.0 f) in
     (r.0, subst (λ y. Framed (machine_from p (step_of p m c).0 b) y) (append_assoc before (c ∷ []) b) r.1)
 
-pub lies_in : (p : Profile) (b : List ℕ) (id : ℕ) (a : Awaits) → AreBytes b → spot_after p b ≡ Some (id, a) → LiesIn id b
-lies_in p b id a bytes e =
+pub lies_in : (p : Profile) (b : List ℕ) (place : Place) → AreBytes b → place_after p b ≡ Some place → LiesIn place.section b
+lies_in p b place bytes e =
     let low : 0 < 8 = omega arith in
     let r = framed p (machine.Header 0) [] b bytes low (low, refl) in
-    by_machine p (machine_from p (machine.Header 0) b) b id a r.0 r.1 e
+    by_machine p (machine_from p (machine.Header 0) b) b place r.0 r.1 e

@@ -2,8 +2,8 @@
 
 ghost use Rattle.std.specs.Prelude.{◌≡◌, ◌+◌, ◌-◌, ◌<◌, ◌≤◌, ◌++◌, ℕ, List, length, slice_get, take};
 ghost use Rattle.wm_syntax.specs.declared.profile.Profile.{Profile as AProfile};
-ghost use Rattle.wm_decode.specs.exact.Awaited.{machine_from, spot_in};
-ghost use Rattle.wm_decode.specs.inner.Places.{IsAfter, spot_after, spot_of};
+ghost use Rattle.wm_decode.specs.exact.Awaited.{machine_from, place_in};
+ghost use Rattle.wm_decode.specs.inner.Places.{IsAfter, place_after};
 
 use crate::place::awaits::{Awaits, in_custom, in_member};
 use wm_machine::machine::Machine;
@@ -18,8 +18,7 @@ pub struct Place {
     /// The id of its section: 0 for a custom section, else 1 to 11. Core spec 5.5.2.
     pub section: u8,
     /// The number of members of the section before the one that it lies in. `None` in the size and the member count of
-    /// a section, and in a custom section. The start function is the one member of its section. No contract pins this
-    /// field; it is tested.
+    /// a section, and in a custom section. The start function is the one member of its section.
     pub item: Option<u32>,
     /// The part of the format that it belongs to.
     pub awaits: Awaits,
@@ -30,65 +29,44 @@ pub struct Place {
 pub struct Snapshot {
     pub(crate) profile: Profile,
     pub(crate) machine: Machine,
-    // the index of the last member of the section, if the machine is inside a member
-    pub(crate) last_member: u32,
     // the number of bytes read
     pub(crate) at: u64,
 }
 
-/// Whether the members of a section may begin in the next bytes that are taken at once: the machine is in no members and
-/// in no custom section.
-#[inline(always)]
-pub(crate) fn is_before_members(machine: &Machine) -> bool {
-    !matches!(
-        machine,
-        Machine::Section { .. } | Machine::Custom { .. } | Machine::CustomSize { .. }
-    )
-}
-
-/// Returns the index of the last member of the section if its first member begins; else returns `last_member`.
-pub(crate) fn begun(machine: &Machine, last_member: u32) -> u32 {
-    match machine {
-        Machine::Section { left, .. } => *left,
-        _ => last_member,
-    }
-}
-
-// Returns the id of the section and the part that comes next, or `None` in the header and before the id of a section
-fn spot(machine: &Machine) -> Option<(u8, Awaits)>
-    ensures { result ≡ spot_in machine.now }
+// Returns the place of the next byte, or `None` in the header and before the id of a section
+fn place_in(machine: &Machine) -> Option<Place>
+    ensures { result ≡ place_in machine.now }
 {
-    match *machine {
-        Machine::Header(_) | Machine::Between { .. } | Machine::Refused(_) => None,
-        Machine::CustomSize { .. } => Some((0, Awaits::Number)),
-        Machine::Custom { part, .. } => Some((0, in_custom(part))),
-        Machine::Size { of, .. } | Machine::Count { of, .. } => Some((of.id(), Awaits::Number)),
-        Machine::Section { of, at, .. } => Some((of.id(), in_member(at))),
-    }
+    let (section, item, awaits) = match *machine {
+        Machine::Header(_) | Machine::Between { .. } | Machine::Refused(_) => return None,
+        Machine::CustomSize { .. } => (0, None, Awaits::Number),
+        Machine::Custom { part, .. } => (0, None, in_custom(part)),
+        Machine::Size { of, .. } | Machine::Count { of, .. } => (of.id(), None, Awaits::Number),
+        Machine::Section {
+            of,
+            counts,
+            left,
+            at,
+            ..
+        } => {
+            let item = counts.members.saturating_sub(left).saturating_sub(1);
+            (of.id(), Some(item), in_member(at))
+        }
+    };
+    Some(Place {
+        section,
+        item,
+        awaits,
+    })
 }
 
 impl Snapshot {
     /// Returns the place of the next byte. Returns `None` in the header, and before the id of a section.
     pub fn place(&self) -> Option<Place>
-        ensures spot { spot_of result ≡ spot_in self.now.machine }
-        ensures after { (p : AProfile) (bytes : List ℕ) → IsAfter self.now p bytes
-            → spot_of result ≡ spot_after p bytes }
+        ensures machine { result ≡ place_in self.now.machine }
+        ensures after { (p : AProfile) (bytes : List ℕ) → IsAfter self.now p bytes → result ≡ place_after p bytes }
     {
-        match spot(&self.machine) {
-            Some((section, awaits)) => Some(Place {
-                section,
-                item: self.item(),
-                awaits,
-            }),
-            None => None,
-        }
-    }
-
-    fn item(&self) -> Option<u32> {
-        match self.machine {
-            Machine::Section { left, .. } => self.last_member.checked_sub(left),
-            _ => None,
-        }
+        place_in(&self.machine)
     }
 
     // Returns the state after further bytes, which takes the slow path over them
@@ -97,18 +75,12 @@ impl Snapshot {
         ensures machine { result.machine ≡ machine_from self.now.profile self.now.machine piece.now }
     {
         let mut machine = self.machine;
-        let mut last_member = self.last_member;
         for byte in piece {
-            let is_before = is_before_members(&machine);
             let _ = step(self.profile, &mut machine, *byte);
-            if is_before {
-                last_member = begun(&machine, last_member);
-            }
         }
         Snapshot {
             profile: self.profile,
             machine,
-            last_member,
             at: self.at,
         }
     }
@@ -125,7 +97,7 @@ impl Snapshot {
     pub fn place_in(&self, piece: &[u8], at: u64) -> Option<Place>
         ensures { (p : AProfile) (bytes : List ℕ) → IsAfter self.now p bytes → length bytes < at
             → at ≤ length (bytes ++ piece.now)
-            → spot_of result ≡ spot_after p (take (at - 1) (bytes ++ piece.now)) }
+            → result ≡ place_after p (take (at - 1) (bytes ++ piece.now)) }
     {
         let before = self.index(at).min(piece.len() as u64);
         self.replayed(&piece[..before as usize]).place()

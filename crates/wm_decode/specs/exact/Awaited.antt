@@ -1,5 +1,5 @@
--- Exact answers about the section and the part of the format that come next, in a state of the machine.
-use Rattle.std.specs.Prelude.{ℕ, List, [], ◌∷◌, Option, Some, None}
+-- Exact answers about the place of the next byte, in a state of the machine.
+use Rattle.std.specs.Prelude.{ℕ, ◌-◌, List, [], ◌∷◌, Option, Some, None}
 use Rattle.wm_syntax.specs.declared.profile.Profile.{Profile}
 use Rattle.wm_machine.specs.declared.machine.InCustom.{InCustom}
 use Rattle.wm_machine.specs.declared.machine.InCustom.TheVariants as custom
@@ -29,6 +29,7 @@ use Rattle.wm_machine.specs.declared.step.values.InValue.{InValue}
 use Rattle.wm_machine.specs.declared.step.values.InValue.TheVariants as value
 use Rattle.wm_machine.specs.exact.Members.{id_of}
 use Rattle.wm_machine.specs.exact.Steps.{step_of}
+use Rattle.wm_decode.specs.declared.place.Place.{Place}
 use Rattle.wm_decode.specs.declared.place.awaits.Awaits.{Awaits}
 use Rattle.wm_decode.specs.declared.place.awaits.Awaits.TheVariants as awaits
 
@@ -111,14 +112,19 @@ awaits_in_custom (custom.Length r) = awaits.Number
 awaits_in_custom (custom.Name more) = awaits.Name
 awaits_in_custom _ = awaits.Any
 
--- the id of the section, and the part that comes next; `None` in the header and before the id of a section
-abbrev pub spot_in : Machine → Option (ℕ × Awaits)
-spot_in (machine.CustomSize last functions r) = Some (0, awaits.Number)
-spot_in (machine.Custom last functions more q) = Some (0, awaits_in_custom q)
-spot_in (machine.Size of functions r) = Some (id_of of, awaits.Number)
-spot_in (machine.Count of functions more r) = Some (id_of of, awaits.Number)
-spot_in (machine.Section of functions more left q) = Some (id_of of, awaits_in_member q)
-spot_in _ = None
+-- a place in a section with this id, in none of its members
+abbrev pub in_no_member : ℕ → Awaits → Place
+in_no_member id a = record { section = id; item = None; awaits = a }
+
+-- the place of the next byte; `None` in the header and before the id of a section
+abbrev pub place_in : Machine → Option Place
+place_in (machine.CustomSize last counts r) = Some (in_no_member 0 awaits.Number)
+place_in (machine.Custom last counts more q) = Some (in_no_member 0 (awaits_in_custom q))
+place_in (machine.Size of counts r) = Some (in_no_member (id_of of) awaits.Number)
+place_in (machine.Count of counts more r) = Some (in_no_member (id_of of) awaits.Number)
+place_in (machine.Section of counts more left q) =
+    Some (record { section = id_of of; item = Some (counts.members - left - 1); awaits = awaits_in_member q })
+place_in _ = None
 
 -- the machine after these bytes, whatever a sink says
 abbrev pub machine_from : Profile → Machine → List ℕ → Machine

@@ -14,8 +14,6 @@ pub struct Decoder<S> {
     pub(crate) name: Vec<u8>,
     pub(crate) at: u64,
     pub(crate) max_bytes: u64,
-    // the index of the last member of the section, if the machine is inside a member
-    pub(crate) last_member: u32,
     pub(crate) profile: Profile,
     ghost in_range: { max_bytes ≤ 2 ^ 62 },
 }

@@ -21,7 +21,7 @@ returns-clause-moved g c = λ part.
     let size : used ≡ c.args.i + used - c.args.i = omega arith in
     let name : s.name.items ++ (part ++ slice_range c.args.piece.now c.args.i (c.args.i + used)) ≡ (s.name.items ++ part) ++ take used bytes =
     sym (append_assoc s.name.items part (slice_range c.args.piece.now c.args.i (c.args.i + used))) ∙ ap (λ n. (s.name.items ++ part) ++ take n bytes) (sym size) in
-    names g.S.Sink.after s.profile s.max_bytes bytes s.machine (machine.Section q.of q.functions (q.more - used) q.left (at.Name w.kind (w.rest - used))) q.at (at.Name w.kind (w.rest - used)) q.of q.functions q.left q.more w.rest used w.kind
+    names g.S.Sink.after s.profile s.max_bytes bytes s.machine (machine.Section q.of q.counts (q.more - used) q.left (at.Name w.kind (w.rest - used))) q.at (at.Name w.kind (w.rest - used)) q.of q.counts q.left q.more w.rest used w.kind
     (s.name.items ++ part) (s.name.items ++ (part ++ slice_range c.args.piece.now c.args.i (c.args.i + used))) (g.S.Sink.held s.sink) s.at (s.at + c.from.result)
     q.is w.is refl refl name end inside less fewer fits
-    ∙ ap (λ (y : List ℕ). decoder_after g.S.Sink.after s.profile s.max_bytes (record { machine = machine.Section q.of q.functions (q.more - used) q.left (at.Name w.kind (w.rest - used)); name = s.name.items ++ (part ++ slice_range c.args.piece.now c.args.i (c.args.i + used)); held = g.S.Sink.held s.sink; at = s.at + c.from.result }) y) (drop-drop used c.args.i c.args.piece.now)
+    ∙ ap (λ (y : List ℕ). decoder_after g.S.Sink.after s.profile s.max_bytes (record { machine = machine.Section q.of q.counts (q.more - used) q.left (at.Name w.kind (w.rest - used)); name = s.name.items ++ (part ++ slice_range c.args.piece.now c.args.i (c.args.i + used)); held = g.S.Sink.held s.sink; at = s.at + c.from.result }) y) (drop-drop used c.args.i c.args.piece.now)
