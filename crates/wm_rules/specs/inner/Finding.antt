@@ -4,19 +4,19 @@ use Rattle.wm_syntax.specs.declared.profile.Profile.{Profile}
 use Rattle.wm_syntax.specs.declared.why.Why.TheVariants as why
 use Rattle.wm_machine.specs.declared.refusal.Refusal.{Refusal}
 use Rattle.wm_decode.specs.declared.place.Snapshot.{Snapshot}
-use Rattle.wm_decode.specs.inner.Places.{IsAfter, spot_after, spot_of}
+use Rattle.wm_decode.specs.inner.Places.{IsAfter, place_after}
 use Rattle.wm_rules.specs.declared.found.Found.{Found}
 use Rattle.wm_rules.specs.declared.reading.FromFault.{FromFault}
 use Rattle.wm_rules.specs.declared.reading.FromFault.TheVariants.{Refused, Io}
 
 -- The place is that of the byte at the offset of the refusal, and it is the refused byte.
 pub record IsFound (f : Found) (p : Profile) (bytes : List ℕ) (r : Refusal) : Type 0 where
-  pub place : spot_of f.place ≡ spot_after p (take (r.at - 1) bytes)
+  pub place : f.place ≡ place_after p (take (r.at - 1) bytes)
   pub byte : r.why ≢ why.Memory → r.why ≢ why.TooLong → f.byte ≡ slice_get bytes (r.at - 1)
 
 -- The place is that of the end of the bytes.
 pub record IsFoundAtEnd (f : Found) (p : Profile) (bytes : List ℕ) : Type 0 where
-  pub place : spot_of f.place ≡ spot_after p bytes
+  pub place : f.place ≡ place_after p bytes
   pub byte : f.byte ≡ None
 
 -- The snapshot is that of a decoder after these bytes. No absent one is.
