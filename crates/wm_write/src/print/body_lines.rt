@@ -122,16 +122,7 @@ fn push_immediates(line: &mut Batch, simple: &Simple)
         Simple::F64Const(bits) => push_f64(line, *bits),
         Simple::Load(op, at) => push_access(line, loaded(*op).width, *at),
         Simple::Store(op, at) => push_access(line, stored(*op).width, *at),
-        Simple::Unreachable
-        | Simple::Nop
-        | Simple::Return
-        | Simple::Drop
-        | Simple::Select
-        | Simple::MemorySize
-        | Simple::MemoryGrow
-        | Simple::MemoryCopy
-        | Simple::MemoryFill
-        | Simple::Numeric(_) => {}
+        _ => {}
     }
 }
 
