@@ -120,8 +120,8 @@ pub const OF_TEXTS: &str = "\
         field.\n\
     UnknownWord | A keyword names no field, or no instruction of the profile. An `else` or `end` \
         without a block is also refused by this name. | 6.5, 6.6 | `(module(a`: at 8 | Look up the \
-        keyword in 6.5 and 6.6. For sign extension use `--profile 2`, or `4` with floats. For old \
-        names such as `get_local` use `--old-words`.\n\
+        keyword in 6.5 and 6.6. `wmod build --features help` lists the features that add \
+        instructions. For old names such as `get_local` use `--old-words`.\n\
     BadInteger | A number is not an integer of the wanted range: it is a float, out of range, or has \
         a sign that is not allowed. Also an `offset=` or `align=` without such an integer. | 6.3.1 | \
         `(module(data -1))`: at 13 | Write an integer in range. An index or a limit is below 2^32 \
