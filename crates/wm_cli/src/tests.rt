@@ -2,6 +2,7 @@
 
 mod details;
 pub(crate) mod ends;
+mod expected;
 pub(crate) mod faults;
 mod inputs;
 mod lines;

@@ -22,7 +22,7 @@ text_told d = placed_line d.at d.line d.column (names.text_name_of d.why)
 abbrev pub line_told : Detail → List ℕ
 line_told (Input r found) = refusal_line r.at r.why
 line_told (Text d) = text_told d
-line_told (Built r) = module_line r.at r.why
+line_told (Built r found) = module_line r.at r.why
 line_told TooLarge = too_large_line
 
 -- A run that refused its input has a detail, and wrote the line of this refusal.

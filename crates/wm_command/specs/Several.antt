@@ -1,5 +1,5 @@
 -- The answers and the status of a run over several files.
-use Rattle.std.specs.Prelude.{◌≡◌, ◌≢◌, ◌≤◌, ◌⊎◌, ◌==◌, ◌-◌, ℕ, List, [], ◌∷◌, ◌++◌, Option, Some, IfSome, ⊤, codes}
+use Rattle.std.specs.Prelude.{◌≡◌, ◌≢◌, ◌⊎◌, ◌==◌, ◌-◌, ℕ, List, [], ◌∷◌, ◌++◌, Option, Some, IfSome, ⊤, codes}
 use Rattle.std.specs.Prelude.{false, fold, if◌then◌else◌, length, map, nat_lt, option_map, take}
 use Rattle.std.specs.Char.{is_control}
 use Rattle.std.specs.List.{list_any}

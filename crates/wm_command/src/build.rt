@@ -25,14 +25,18 @@ use wm_decode::Refusal;
 use wm_read::faults::TextWhy;
 use wm_read::spellings::Spellings;
 use wm_read::text::read_text;
-use wm_rules::Policy;
+use wm_rules::{Found, Policy, Validator};
 use wm_syntax::io::{Dest, Source};
 use wm_syntax::modules::Module;
 use wm_syntax::profile::Profile;
 use wm_syntax::why::Why;
 use wm_write::check_module::{CheckFault, checked_bytes};
+use wm_write::in_memory::encoded;
 
 const PIECE: usize = 4096;
+
+// An upper bound on the length of a canonical binary, in bytes.
+const MAX_BINARY: u64 = 1 << 62;
 
 /// Why `read_all` did not return the whole input.
 #[derive(Clone, Copy, PartialEq, Eq, Debug)]
@@ -184,10 +188,7 @@ fn convert_module<W: Dest>(
             status: answer(w, &bytes, Status::Done),
             detail: None,
         },
-        Err(CheckFault::Refused(refusal)) => Ended {
-            status: refuse_module(alloc, refusal, w),
-            detail: Some(Detail::Built(refusal)),
-        },
+        Err(CheckFault::Refused(refusal)) => refuse_built(alloc, profile, policy, m, refusal, w),
         Err(CheckFault::TooLarge) => Ended {
             status: answer(w, b"module refused: TooLarge\n", Status::Refused),
             detail: Some(Detail::TooLarge),
@@ -196,6 +197,49 @@ fn convert_module<W: Dest>(
             status: Status::Memory,
             detail: None,
         },
+    }
+}
+
+/// Returns what is known of the byte at which a refused module's canonical binary is refused. The binary was not kept,
+/// so it is written and validated again. Returns `None` only if memory is refused. No contract: the refusal is known, and
+/// this decides only the words of its detail.
+fn find_in_binary(alloc: Global, profile: Profile, policy: Policy, m: &Module) -> Option<Found> {
+    let Ok(bytes) = encoded(alloc, m) else {
+        return None;
+    };
+    let mut validator = Validator::new(alloc, profile, MAX_BINARY, policy);
+    let before = validator.snapshot();
+    let fed = validator.feed(&bytes);
+    let imported = validator.imported();
+    match fed {
+        Ok(()) => Some(Found::at_end(validator.snapshot(), imported)),
+        Err(refusal) if refusal.why == Why::Memory => None,
+        Err(refusal) => Some(Found::in_piece(before, &bytes, refusal, imported)),
+    }
+}
+
+/// Writes the refusal of a text's module. Returns `Memory`, with nothing written, if memory is refused. The detail is that
+/// of the written refusal.
+fn refuse_built<W: Dest>(
+    alloc: Global,
+    profile: Profile,
+    policy: Policy,
+    m: &Module,
+    refusal: Refusal,
+    w: &mut W,
+) -> Ended
+    requires { W.has_failed w.old ≡ false }
+    ensures answered { result.status ≢ Status.Memory
+        → IsAnswered (module_line refusal.at refusal.why) Status.Refused
+        (W.contents w.old) (W.contents w.new) (W.has_failed w.new) (W.is_flushed w.new) result.status }
+    ensures memory { result.status ≡ Status.Memory → w.new ≡ w.old }
+    ensures io { (result.status ≡ Status.Io) ↔ (W.has_failed w.new ≡ true) }
+    ensures told { IsTold result (W.contents w.old) (W.contents w.new) }
+{
+    let found = find_in_binary(alloc, profile, policy, m);
+    Ended {
+        status: refuse_module(alloc, refusal, w),
+        detail: Some(Detail::Built { refusal, found }),
     }
 }
 
@@ -225,7 +269,7 @@ fn refuse_text<W: Dest>(alloc: Global, detail: &TextDetail, w: &mut W) -> Status
     }
 }
 
-/// Writes the refusal of a text's module. Returns `Memory`, with nothing written, if memory is refused.
+/// Writes the line of the refusal of a text's module. Returns `Memory`, with nothing written, if memory is refused.
 fn refuse_module<W: Dest>(alloc: Global, refusal: Refusal, w: &mut W) -> Status
     requires { W.has_failed w.old ≡ false }
     ensures answered { result ≢ Status.Memory

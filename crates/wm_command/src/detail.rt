@@ -4,6 +4,7 @@ ghost use Rattle.std.specs.Prelude.{◌≡◌, ◌≤◌, None, drop, length, ta
 
 use crate::arguments::Line;
 use crate::complaint::{Escaped, complain};
+use crate::expected::{Expected, expected_at};
 use crate::position::{Position, is_first, locate};
 use crate::status::Status;
 use std::fmt;
@@ -13,7 +14,6 @@ use wm_refusals::hints::{hint_for, section_name};
 use wm_refusals::rows::{Row, row_of_module, row_of_text};
 use wm_rules::Found;
 use wm_syntax::why::Why;
-use wm_tokens::lexeme::skip_space;
 
 /// The most bytes of a token that are shown.
 const MOST: usize = 40;
@@ -49,8 +49,12 @@ pub enum Detail {
     },
     /// A text is refused.
     Text(TextDetail),
-    /// The module of a text is refused. The offset is that of its canonical binary.
-    Built(Refusal),
+    /// The module of a text is refused. The offset and what was found are those of its canonical binary. `found` is
+    /// `None` if memory was refused when it was looked for.
+    Built {
+        refusal: Refusal,
+        found: Option<Found>,
+    },
     /// A section of the canonical binary of a text's module is too large.
     TooLarge,
 }
@@ -63,26 +67,9 @@ pub struct TextDetail {
     pub line: usize,
     pub column: usize,
     pub token: Token,
-    /// The only start of a text that may come here, if it is known.
-    pub expected: Option<Start>,
-}
-
-/// The tokens that a text must begin with, from one of them on.
-#[derive(Clone, Copy)]
-pub enum Start {
-    /// `(module`
-    Parenthesis,
-    /// `module`
-    Module,
-}
-
-impl fmt::Display for Start {
-    fn fmt<W: fmt::Write>(&self, f: &mut fmt::Formatter<W>) -> fmt::Result {
-        f.write_str(match self {
-            Start::Parenthesis => "`(module`",
-            Start::Module => "`module`",
-        })
-    }
+    /// The only kind of token that may come here. `None` if several may, if the tokens before it begin no module, or if
+    /// `why` is not `Expected`.
+    pub expected: Option<Expected>,
 }
 
 /// The start of the token that decides a refusal.
@@ -210,16 +197,6 @@ impl fmt::Display for Token {
     }
 }
 
-/// Returns what must come at this offset of a text that is refused there as `Expected`. Returns `None` after the first
-/// two tokens, where it is not known. It reads only what is before the offset, since the token there may be long.
-fn start_at(text: &[u8], at: usize) -> Option<Start> {
-    match skip_space(text.get(..at)?) {
-        [] => Some(Start::Parenthesis),
-        [b'(', inner @ ..] if skip_space(inner).is_empty() => Some(Start::Module),
-        _ => None,
-    }
-}
-
 /// The first sentence on what a NAME means, with a small letter and no full stop. It is empty if there is no row.
 #[derive(Clone, Copy)]
 struct Meaning<'a>(Option<Row<'a>>);
@@ -254,7 +231,7 @@ impl TextDetail {
         let TextRefusal { at, why } = refusal;
         let Position { line, column } = locate(text, at);
         let expected = match why {
-            TextWhy::Expected => start_at(text, at),
+            TextWhy::Expected => expected_at(text, at),
             _ => None,
         };
         TextDetail {
@@ -280,7 +257,7 @@ impl fmt::Display for TextDetail {
         } = self;
         write!(f, "{line}:{column}: found {token}")?;
         match expected {
-            Some(start) => write!(f, ", expected {start}"),
+            Some(expected) => write!(f, ", expected {expected}"),
             None => write!(f, ": {}", Meaning(row_of_text(why.name()))),
         }
     }
@@ -366,12 +343,17 @@ impl fmt::Display for Detail {
                 None => write!(f, "{}", meaning_of(refusal.why)),
             },
             Detail::Text(detail) => write!(f, "{detail}"),
-            Detail::Built(refusal) => write!(
-                f,
-                "in the canonical binary at {:#x}: {}",
-                refusal.at.saturating_sub(1),
-                meaning_of(refusal.why)
-            ),
+            Detail::Built { refusal, found } => {
+                f.write_str("in the canonical binary")?;
+                match found {
+                    Some(found) => {
+                        f.write_str(": ")?;
+                        Refused(*refusal, *found).place(f)?;
+                    }
+                    None => write!(f, " at {:#x}", refusal.at.saturating_sub(1))?,
+                }
+                write!(f, ": {}", meaning_of(refusal.why))
+            }
             Detail::TooLarge => {
                 f.write_str("in the canonical binary: a section has 2^32 bytes or more")
             }

@@ -1,5 +1,5 @@
 //! The command `wmod`: its arguments, and what each action does. The program and the tests are in `wm_cli`.
-//! `run`, `detail` and `witness` are public for the tests only.
+//! `run`, `detail`, `expected` and `witness` are public for the tests only.
 #![tactic(auto)]
 
 mod answer;
@@ -8,6 +8,7 @@ mod build;
 pub mod complaint;
 pub mod detail;
 pub mod execute;
+pub mod expected;
 pub mod explain;
 mod features;
 pub mod laws;

@@ -32,5 +32,5 @@ returns-in-Err-Refused-clause-answered g c = λ n.
         (r, place.0, place.1, c.in-Err-Refused.ensures.same r is, c.in-Err-Refused.ensures.means r is, refl),
         refl,
       )),
-      c.refuse_module.ensures.answered n,
+      c.refuse_built.ensures.answered n,
     )

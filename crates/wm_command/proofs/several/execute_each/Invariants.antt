@@ -1,4 +1,4 @@
-use Rattle.std.proofs.Common.{List, ℕ, Some, drop, map}
+use Rattle.std.proofs.Common.{Some, drop, map}
 use Rattle.wm_command.specs.Several.{IsRightAt}
 use Rattle.wm_command.proofs.SeveralLemmas.{Reached}
 use Rattle.wm_command.proofs.several.execute_each.Given as goal

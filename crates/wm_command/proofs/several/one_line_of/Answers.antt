@@ -1,4 +1,4 @@
-use Rattle.std.proofs.Common.{◌≡◌, ◌∙◌, ◌++◌, ◌∷◌, [], ap, ap₂, length, map, sym, take, arith}
+use Rattle.std.proofs.Common.{◌∙◌, ◌++◌, ◌∷◌, [], ap, ap₂, map, sym, take, arith}
 use Rattle.std.proofs.lemmas.List.{map_more, take_all}
 use Rattle.wm_command.specs.Several.{spaced}
 use Rattle.wm_command.proofs.several.one_line_of.Goals as goal
