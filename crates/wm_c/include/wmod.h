@@ -295,8 +295,9 @@ struct wmod_place {
  * The handle stays as it is. Returns WMOD_VALID, or WMOD_MISUSE if the handle is empty: the place is then that of no
  * byte.
  *
- * Proved, unless memory was refused: the byte lies in `section`, if that is not WMOD_NONE. The profile and the bytes
- * before the byte alone determine `section` and `awaits`. Tested: the meaning of `awaits`, and the other fields. */
+ * Proved, unless memory was refused: the byte lies in `section`, after `item` members of it, if these are not
+ * WMOD_NONE. The profile and the bytes before the byte alone determine `section`, `item` and `awaits`. Tested: the
+ * meaning of `awaits`, and the other fields. */
 uint32_t wmod_place(wmod_validator *v, struct wmod_place *place);
 
 /* Writes what a refused byte begins in a later version of the standard, the features that this needs, what to do, and a

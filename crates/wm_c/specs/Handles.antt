@@ -52,8 +52,8 @@ abbrev pub HoldsRefusal : Option Session → Refusal → Type 0
 HoldsRefusal None r = ⊥
 HoldsRefusal (Some s) r = StateRefused s.state r
 
--- The handle holds a session that was refused, or has its answer, at a byte with these numbers of a section and of a
--- part of the format.
-abbrev pub HoldsPlace : Option Session → ℕ × ℕ → Type 0
+-- The handle holds a session that was refused, or has its answer, at a byte with these numbers of a section, of a
+-- member of it, and of a part of the format.
+abbrev pub HoldsPlace : Option Session → ℕ × ℕ × ℕ → Type 0
 HoldsPlace None n = ⊥
 HoldsPlace (Some s) n = IsAt s n

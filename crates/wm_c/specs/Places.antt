@@ -3,7 +3,8 @@ use Rattle.std.specs.Prelude.{◌-◌, ◌^◌, ℕ, List, Option, Some, None}
 use Rattle.wm_syntax.specs.declared.profile.Profile.{Profile}
 use Rattle.wm_decode.specs.declared.place.awaits.Awaits.{Awaits}
 use Rattle.wm_decode.specs.declared.place.awaits.Awaits.TheVariants as awaits
-use Rattle.wm_decode.specs.inner.Places.{spot_after}
+use Rattle.wm_decode.specs.declared.place.Place.{Place as PlaceOf}
+use Rattle.wm_decode.specs.inner.Places.{place_after}
 use Rattle.wm_c.specs.declared.place.Place.{Place}
 
 -- The number of a field that has no value.
@@ -38,14 +39,23 @@ awaits_code awaits.Any = 13
 awaits_code awaits.OpcodeNumber = 14
 
 -- The numbers of a section and of a part of the format.
-abbrev pub spot_numbers : Option (ℕ × Awaits) → ℕ × ℕ
-spot_numbers None = (none, 0)
-spot_numbers (Some x) = (x.0, awaits_code x.1)
+abbrev pub spot_numbers : ℕ × Awaits → ℕ × ℕ
+spot_numbers x = (x.0, awaits_code x.1)
 
--- The numbers of the section that the byte after these bytes lies in, and of the part of the format that it belongs to.
-abbrev pub numbers_after : Profile → List ℕ → ℕ × ℕ
-numbers_after p bytes = spot_numbers (spot_after p bytes)
+-- The number of a field that may have no value.
+abbrev pub number_or_none : Option ℕ → ℕ
+number_or_none None = none
+number_or_none (Some n) = n
 
--- The number of the section in a place, and that of the part of the format.
-abbrev pub numbers_in : Place → ℕ × ℕ
-numbers_in place = (place.section, place.awaits)
+-- The numbers of a section, of a member of it, and of a part of the format.
+abbrev pub place_numbers : Option PlaceOf → ℕ × ℕ × ℕ
+place_numbers None = (none, none, 0)
+place_numbers (Some x) = (x.section, number_or_none x.item, awaits_code x.awaits)
+
+-- The numbers of the place of the byte after these bytes.
+abbrev pub numbers_after : Profile → List ℕ → ℕ × ℕ × ℕ
+numbers_after p bytes = place_numbers (place_after p bytes)
+
+-- The numbers of the section, the member and the part of the format in a place.
+abbrev pub numbers_in : Place → ℕ × ℕ × ℕ
+numbers_in place = (place.section, place.item, place.awaits)

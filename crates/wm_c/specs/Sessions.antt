@@ -46,10 +46,11 @@ abbrev pub StateRefused : State → Refusal → Type 0
 StateRefused (Reading v) r = refusal_in v ≡ Some r
 StateRefused (Ended a) r = ⊥
 
--- The session was refused, or has its answer, at a byte with these numbers of a section and of a part of the format.
-abbrev pub StateIsAt : State → Place → ℕ × ℕ → Type 0
+-- The session was refused, or has its answer, at a byte with these numbers of a section, of a member of it, and of a
+-- part of the format.
+abbrev pub StateIsAt : State → Place → ℕ × ℕ × ℕ → Type 0
 StateIsAt (Reading v) place n = (r : Refusal) × (refusal_in v ≡ Some r) × (numbers_in place ≡ n)
 StateIsAt (Ended a) place n = numbers_in place ≡ n
 
-abbrev pub IsAt : Session → ℕ × ℕ → Type 0
+abbrev pub IsAt : Session → ℕ × ℕ × ℕ → Type 0
 IsAt s n = StateIsAt s.state s.place n

@@ -105,7 +105,7 @@ pub extern "C" fn wmod_feed(alloc: Global, v: &mut Handle, piece: &[u8]) -> u32
         → (p : AProfile) (limit : ℕ) (q : APolicy) (before : List ℕ) → Holds v.old.held p limit q before
         → (r : ARefusal) → HoldsRefusal v.new.held r
         → HoldsPlace v.new.held (numbers_after p (take (r.at - 1) (before ++ piece.now))) }
-    ensures still { (n : ℕ × ℕ) → HoldsPlace v.old.held n → HoldsPlace v.new.held n }
+    ensures still { (n : ℕ × ℕ × ℕ) → HoldsPlace v.old.held n → HoldsPlace v.new.held n }
 {
     match emptied(v).take(alloc) {
         None => 2,
@@ -132,7 +132,7 @@ pub extern "C" fn wmod_finish(alloc: Global, v: &mut Handle, answer: &mut Answer
     ensures none { v.old.held ≡ None → (answer.new ≡ misuse) × (v.new.held ≡ None) }
     ensures status { result ≡ answer.new.status }
     // The handle keeps those of a refusal, or those of the end of the input if no piece was refused.
-    ensures still { (n : ℕ × ℕ) → HoldsPlace v.old.held n → HoldsPlace v.new.held n }
+    ensures still { (n : ℕ × ℕ × ℕ) → HoldsPlace v.old.held n → HoldsPlace v.new.held n }
     ensures spot { TakesPieces v.old.held → ((r : ARefusal) → HoldsRefusal v.old.held r → ⊥)
         → (p : AProfile) (limit : ℕ) (q : APolicy) (input : List ℕ) → Holds v.old.held p limit q input
         → HoldsPlace v.new.held (numbers_after p input) }
@@ -142,10 +142,10 @@ pub extern "C" fn wmod_finish(alloc: Global, v: &mut Handle, answer: &mut Answer
 }
 
 /// Writes the place of the byte that was refused; if none was, that of the next byte or of the end of the input. Returns
-/// 0, or 2 if the handle is empty. Contracts pin the fields `section` and `awaits`; the others are tested.
+/// 0, or 2 if the handle is empty. Contracts pin `section`, `item` and `awaits`; `index` and `byte` are tested.
 #[unsafe(no_mangle)]
 pub extern "C" fn wmod_place(alloc: Global, v: &mut Handle, place: &mut Place) -> u32
-    ensures spot { (n : ℕ × ℕ) → HoldsPlace v.old.held n → numbers_in place.new ≡ n }
+    ensures spot { (n : ℕ × ℕ × ℕ) → HoldsPlace v.old.held n → numbers_in place.new ≡ n }
     // If nothing is refused so far, they are those of the next byte.
     ensures next { TakesPieces v.old.held → ((r : ARefusal) → HoldsRefusal v.old.held r → ⊥)
         → (p : AProfile) (limit : ℕ) (q : APolicy) (bytes : List ℕ) → Holds v.old.held p limit q bytes
@@ -185,7 +185,7 @@ fn answered(alloc: Global, v: &mut Handle) -> Answer
     ensures again { (a : AnAnswer) → HoldsAnswer v.old.held a → (result ≡ a) × (v.new.held ≡ v.old.held) }
     ensures ended { v.old.held ≢ None → HoldsAnswer v.new.held result }
     ensures none { v.old.held ≡ None → (result ≡ misuse) × (v.new.held ≡ None) }
-    ensures still { (n : ℕ × ℕ) → HoldsPlace v.old.held n → HoldsPlace v.new.held n }
+    ensures still { (n : ℕ × ℕ × ℕ) → HoldsPlace v.old.held n → HoldsPlace v.new.held n }
     ensures spot { TakesPieces v.old.held → ((r : ARefusal) → HoldsRefusal v.old.held r → ⊥)
         → (p : AProfile) (limit : ℕ) (q : APolicy) (input : List ℕ) → Holds v.old.held p limit q input
         → HoldsPlace v.new.held (numbers_after p input) }

@@ -1,9 +1,8 @@
 //! The place of a byte in a module, as C gets it.
 
 ghost use Rattle.std.specs.Prelude.{◌≡◌, ◌≢◌, IfSome, MatchOption, Some};
-ghost use Rattle.wm_c.specs.Places.{awaits_code, nowhere, numbers_in, spot_numbers};
+ghost use Rattle.wm_c.specs.Places.{awaits_code, nowhere, numbers_in, place_numbers, spot_numbers};
 ghost use Rattle.wm_decode.specs.declared.place.awaits.Awaits.{Awaits as AnAwaits};
-ghost use Rattle.wm_decode.specs.inner.Places.{spot_of};
 
 use wm_rules::{Awaits, Found, Imported, Place as PlaceOf};
 
@@ -95,9 +94,9 @@ impl Place {
         }
     }
 
-    /// Returns in numbers what was found. No contract pins `item`, `index` and `byte`; they are tested.
+    /// Returns in numbers what was found. No contract pins `index` and `byte`; they are tested.
     pub(crate) fn of(found: Found) -> Place
-        ensures { numbers_in result ≡ spot_numbers (spot_of found.place) }
+        ensures { numbers_in result ≡ place_numbers found.place }
     {
         let byte = match found.byte {
             Some(byte) => u32::from(byte),
@@ -123,7 +122,7 @@ impl Place {
 
     /// Returns the section and the part of the format. `None` outside of sections, and for numbers that no place has.
     pub(crate) fn spot(&self) -> Option<(u8, Awaits)>
-        ensures { IfSome result (λ spot. spot_numbers (Some spot) ≡ numbers_in self.now) }
+        ensures { IfSome result (λ spot. spot_numbers spot ≡ (self.now.section, self.now.awaits)) }
     {
         let section = u8::try_from(self.section).ok()?;
         Some((section, awaits_of(self.awaits)?))

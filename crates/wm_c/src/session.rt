@@ -85,7 +85,7 @@ impl Session {
             → (p : AProfile) (limit : ℕ) (q : APolicy) (before : List ℕ) → HasTaken self.old p limit q before
             → (r : ARefusal) → StateRefused self.new.state r
             → IsAt self.new (numbers_after p (take (r.at - 1) (before ++ piece.now))) }
-        ensures still { (n : ℕ × ℕ) → IsAt self.old n → IsAt self.new n }
+        ensures still { (n : ℕ × ℕ × ℕ) → IsAt self.old n → IsAt self.new n }
     {
         match &mut self.state {
             State::Reading(validator) => {
@@ -105,7 +105,7 @@ impl Session {
         ensures told { (r : ARefusal) → StateRefused self.old.state r → result ≡ in_numbers (Err r) }
         ensures ended { HasEnded self.new result }
         ensures again { (a : _) → HasEnded self.old a → (result ≡ a) × (self.new ≡ self.old) }
-        ensures still { (n : ℕ × ℕ) → IsAt self.old n → IsAt self.new n }
+        ensures still { (n : ℕ × ℕ × ℕ) → IsAt self.old n → IsAt self.new n }
         // If no piece was refused, the session is at the end of the input.
         ensures spot { IsReading self.old.state → ((r : ARefusal) → StateRefused self.old.state r → ⊥)
             → (p : AProfile) (limit : ℕ) (q : APolicy) (input : List ℕ) → HasTaken self.old p limit q input
@@ -120,7 +120,7 @@ impl Session {
     /// Returns the place of the byte that was refused. If none was, returns that of the next byte, or of the end of the
     /// input once the session has its answer.
     pub fn place(&self) -> Place
-        ensures spot { (n : ℕ × ℕ) → IsAt self.now n → numbers_in result ≡ n }
+        ensures spot { (n : ℕ × ℕ × ℕ) → IsAt self.now n → numbers_in result ≡ n }
         ensures next { IsReading self.now.state → ((r : ARefusal) → StateRefused self.now.state r → ⊥)
             → (p : AProfile) (limit : ℕ) (q : APolicy) (bytes : List ℕ) → HasTaken self.now p limit q bytes
             → numbers_in result ≡ numbers_after p bytes }
