@@ -43,7 +43,6 @@ fn stepped(rt: &impl Abort, alloc: Global, checker: &mut BodyChecker, op: Op) ->
     let mut types = FuncTypes::new(alloc);
     types.push(&[], None).expect(rt, "memory");
     let context = Context::new(&types, &[], &[], false, false);
-    checker.few_entries();
     assert!(rt; !checker.may_be_closed());
     shown(rt, alloc, checker.step(&context, op))
 }
