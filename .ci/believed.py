@@ -42,10 +42,10 @@ OPAQUE = {
     # It relates a validator to the bytes that it has read. Clauses of `new` and `feed` say when it holds, and those of
     # `finish` what follows from it.
     "wm_rules.specs.inner.Validators.HasRead": ["wm_c/specs/Sessions.antt"],
-    # It gives the section that the byte after some bytes lies in, and the part of the format there. The section is
-    # proved, by the law `places_are_in_their_sections` of wm_decode. The profile and the bytes alone determine the
-    # part, and its meaning is tested.
-    "wm_decode.specs.inner.Places.spot_after": ["wm_c/specs/Places.antt"],
+    # It gives the place of the byte after some bytes. What its section and its item mean is proved, by the laws
+    # `places_are_in_their_sections` and `items_are_members` of wm_decode. The profile and the bytes alone determine the
+    # part of the format in it, and the meaning of the part is tested.
+    "wm_decode.specs.inner.Places.place_after": ["wm_c/specs/Places.antt"],
     # It relates the state of a checker to the bytes, which alone determine it. The bounds beside it (at_most, heights,
     # moves) are functions of the bytes alone.
     "wm_rules.specs.inner.Validators.TellsChecker": ["wm_rules/specs/Validating.antt"],
@@ -73,7 +73,7 @@ wm_typing FuncTypes: *params: Vec<ValType>, *entries: Vec<TypeEntry>
 wm_typing TypeEntry: start: usize, count: usize, result: Option<ValType>
 wm_typing DeclaredLocals: *table: RunTable, known: KnownLocals, probes: u64
 wm_typing BodyChecker: function: Function, *declared: DeclaredLocals, *stacks: Stacks, table: Option<BrTable>, most: Most, refused: Option<Why>, apart: bool
-wm_decode Decoder: *sink: S, machine: Machine, *name: Vec<u8>, at: u64, max_bytes: u64, last_member: u32, profile: Profile
+wm_decode Decoder: *sink: S, machine: Machine, *name: Vec<u8>, at: u64, max_bytes: u64, profile: Profile
 wm_rules Spaces: *types: FuncTypes, *functions: Vec<u32>, *globals: Vec<GlobalType>, imported_functions: usize, imported_globals: usize, bodies: usize, table: bool, memory: bool
 wm_rules ExportNames: alloc: Global, *names: BTreeSet<HashedName>, kept: u64
 wm_rules HashedName: hash: u64, *name: Vec<u8>

@@ -89,6 +89,7 @@ def runs_of(program):
     yield ["build"], TEXT.encode()
     yield ["build", "--old-words"], OLDER.encode()
     yield ["build"], b"(module (start $f))"
+    yield ["build"], b"(module (start 0))"
     module = bytes_of(MODULES["an if"])
     yield ["show", "--max-functions", "9", "--max-locals", "9", "--max-open", "0"], module
     yield ["check", "--profile", "2", "--limit", "20"], module
