@@ -1,12 +1,12 @@
 #!/usr/bin/env python3
-"""Checks or writes the two tables that follow from the names of instructions.
+"""Checks or writes the two tables that follow from the names of instructions, and their number.
 
     bench/tables.py            names the tables that are wrong; status 1 if there are any
     bench/tables.py --write    writes the tables that are wrong; run `rt fmt` in the two crates after it
 
-Both follow from the rows of table.rt. `BY_NAME` of wm_syntax has the codes in the order of their names; a proof
-also covers that order. `GUESSES` of wm_bodies has each code of one byte at the index that `long_guess` gives its name;
-a wrong guess only costs time.
+All follow from the rows of table.rt. `BY_NAME` of wm_syntax has the codes in the order of their names; a proof
+also covers that order. `COUNT` is the number of names in this proof. `GUESSES` of wm_bodies has each code of one byte
+at the index that `long_guess` gives its name; a wrong guess only costs time.
 """
 import pathlib
 import re
@@ -16,6 +16,9 @@ CRATES = pathlib.Path(__file__).resolve().parent.parent / "crates"
 ROWS = CRATES / "wm_syntax/src/instructions/table.rt"
 SORTED = CRATES / "wm_syntax/src/instructions/op_names.rt"
 GUESSED = CRATES / "wm_bodies/src/op_keywords.rt"
+# the proof of the search, which states the number of names
+ORDER = CRATES / "wm_syntax/proofs/NameSearch.antt"
+SEARCH = CRATES / "wm_syntax/proofs/instructions/op_names/op_named/Invariants.antt"
 # the name that is guessed if two names have one index
 PREFERRED = b"memory.size"
 
@@ -57,8 +60,20 @@ def with_table(source, name, table):
     return re.sub(rf"({name}: \[u(?:8|16); )\d+(\] = \[).*?\];", lambda it: f"{it[1]}{len(table)}{it[2]}{rows}];", source, flags=re.S)
 
 
+def check_count(count, write):
+    """Returns the wrong tables: `COUNT`, if the proof states another number of names. Writes the number there."""
+    proved = re.search(r"length ordered ≡ (\d+)", ORDER.read_text(encoding="utf-8"))[1]
+    if int(proved) == count:
+        return []
+    for path in (ORDER, SEARCH) if write else ():
+        source = path.read_text(encoding="utf-8")
+        path.write_text(re.sub(rf"\b{proved}\b", str(count), source), encoding="utf-8")
+    return ["COUNT"]
+
+
 def main():
-    named, wrong = names(), []
+    named = names()
+    wrong = check_count(len(named), "--write" in sys.argv[1:])
     for path, name in ((SORTED, "BY_NAME"), (GUESSED, "GUESSES")):
         source = path.read_text(encoding="utf-8")
         table = by_name(named) if name == "BY_NAME" else guesses(named, source)
