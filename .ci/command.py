@@ -20,7 +20,7 @@ import refusals
 
 # the rows, and their least number, so that no row is lost by accident
 ROWS = pathlib.Path(__file__).resolve().parent / "command_rows.txt"
-LEAST = 329
+LEAST = 330
 TYPED = b"(module)"
 SIGN = bytes.fromhex("0061736D01000000 01050160 00017F 03020100 0A08010600 41FF01 C0 0B")
 # what each run finds in its folder

@@ -160,6 +160,9 @@ def kind_of(ended, ample):
     lines = ample[2].split(b"\n")
     if ended == (*ample[:2], lines[0] + b"\n"):
         return "as with ample memory, but for a second line of standard error"
+    # Without memory to validate a built module again, its line of detail has no byte and no item.
+    if ended[:2] == ample[:2] and re.fullmatch(rb"wmod: standard input: in the canonical binary at 0x[0-9a-f]+: [^\n]+\n", ended[2]):
+        return "as with ample memory, but for the place of a built module"
     return "wrong"
 
 
