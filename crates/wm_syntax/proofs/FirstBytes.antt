@@ -1,23 +1,34 @@
 -- The class of a byte under a profile, by the table of instructions.
 use Rattle.std.proofs.Common.{◌≡◌, ℕ, ◌+◌, ◌<◌, ◌≤◌, Bool, true, false, IsTrue, ◌&&◌, ◌||◌, nat_lt, List, [], ◌∷◌, inl, inr, arith, Option, Some, slice_get, refl, sym, ap, ◌∙◌, subst}
-use Rattle.std.specs.Prelude.{None as Nothing, nat_le}
+use Rattle.std.specs.Prelude.{None as Nothing, map, nat_le, option_map}
 use Rattle.std.specs.List.{list_all, list_any}
 use Rattle.std.proofs.lemmas.Bool.{and_parts, leb-true, ltb-false, ltb-true, or_cases}
-use Rattle.std.proofs.lemmas.Option.{slice_get_past}
+use Rattle.std.proofs.lemmas.Option.{slice_get-map, slice_get_past}
 use Rattle.wm_syntax.specs.declared.instructions.Op.{Op}
 use Rattle.wm_syntax.specs.declared.instructions.op_class.OpClass.{OpClass}
 use Rattle.wm_syntax.specs.declared.instructions.op_class.OpClass.TheVariants.{Float, None}
 use Rattle.wm_syntax.specs.declared.profile.Profile.{Profile}
 use Rattle.wm_syntax.specs.OpClasses.{class_of, code, float_codes, is_float, IsClassOfOp}
-use Rattle.wm_syntax.specs.exact.ByteTable.{classes, class_feature, class_in, row_in, class_under}
+use Rattle.wm_syntax.specs.exact.ByteTable.{classes, features, class_feature, class_in, row_in, class_under}
 use Rattle.wm_syntax.specs.Profiles.{IsOpOf, has, has_prefix}
-use Rattle.wm_syntax.specs.declared.profile.Feature.TheVariants.{Copies, Floats, Saturation}
+use Rattle.wm_syntax.specs.declared.profile.Feature.{Feature}
+use Rattle.wm_syntax.specs.declared.profile.Feature.TheVariants.{BulkMemory, Copies, Floats, Saturation}
 use Rattle.wm_syntax.specs.declared.instructions.Op.TheVariants as op
 use Rattle.wm_syntax.specs.declared.instructions.Simple.TheVariants as s
 use Rattle.wm_syntax.specs.declared.instructions.Numeric.TheVariants.{Saturate}
 use Rattle.wm_syntax.specs.declared.instructions.Saturation.TheVariants as sat
 use Rattle.wm_syntax.proofs.OpTable.{behind_at, behind_features, found_in, has_class, begins_in, float_in, float_never}
 use Rattle.wm_syntax.proofs.OneInstruction.{class_there}
+
+-- The features of the rows are those of their classes.
+features_are : features ≡ map class_feature classes
+features_are = refl
+
+pub feature_there : (byte : ℕ) (c : OpClass) (f : Feature) → slice_get classes byte ≡ Some c → slice_get features byte ≡ Some f → f ≡ class_feature c
+feature_there byte c f e h =
+    let there : Some f ≡ Some (class_feature c) =
+    sym h ∙ ap (λ fs. slice_get fs byte) features_are ∙ slice_get-map class_feature classes byte ∙ ap (option_map class_feature) e in
+    cc
 
 pub row_under : (p : Profile) (byte : ℕ) (c : OpClass) → slice_get classes byte ≡ Some c → class_in p c ≡ class_under p byte
 unfolding class_under
@@ -67,7 +78,7 @@ float_lacks p byte f = of (has p Floats) refl
     of false h = refl
 
 -- past the table there is no op
-pub none_under : (p : Profile) (c : ℕ) → 0x10C ≤ c → None ≡ class_under p c
+pub none_under : (p : Profile) (c : ℕ) → 0x10F ≤ c → None ≡ class_under p c
 unfolding class_under
 none_under p c l = ap (row_in p) (sym (slice_get_past classes c l))
 
@@ -102,13 +113,14 @@ behind_says p n c e = (
     only : (o : Op) × (code o ≡ Some (0x100 + n)) × IsOpOf p o × (class_of o ≡ class_under p (0x100 + n)) → (o : Op) × (code o ≡ Some (0x100 + n)) × IsOpOf p o × (class_of o ≡ c)
     only (o, f, i, q) = (o, f, i, q ∙ sym e)
 
--- An op of the profile whose code is behind the prefix: the profile has one of the two features.
+-- An op of the profile whose code is behind the prefix: the profile has one of the three features.
 pub prefix_of : (p : Profile) (o : Op) (x : ℕ) → code o ≡ Some x → 0x100 ≤ x → IsOpOf p o → IsTrue (has_prefix p)
 prefix_of p o x f l h =
     let own = has_class p o h in
     elim (behind_features (class_feature (class_of o)) (behind_at x o (class_there o x f) l)) [
-      | inl e ↦ ap (λ (b : Bool). b || has p Copies) (ap (has p) (sym e) ∙ own)
-      | inr e ↦ or_right (has p Saturation) (has p Copies) (ap (has p) (sym e) ∙ own)
+      | inl e ↦ ap (λ (b : Bool). b || (has p Copies || has p BulkMemory)) (ap (has p) (sym e) ∙ own)
+      | inr (inl e) ↦ or_right (has p Saturation) _ (ap (λ (b : Bool). b || has p BulkMemory) (ap (has p) (sym e) ∙ own))
+      | inr (inr e) ↦ or_right (has p Saturation) _ (or_right (has p Copies) _ (ap (has p) (sym e) ∙ own))
     ]
   where
     or_right : (a b : Bool) → b ≡ true → (a || b) ≡ true
@@ -117,19 +129,22 @@ prefix_of p o x f l h =
 
 -- With one of them, there is such an op.
 pub some_behind : (p : Profile) → IsTrue (has_prefix p) → (o : Op) × (n : ℕ) × (code o ≡ Some (0x100 + n)) × IsOpOf p o × (n < 0x80)
-some_behind p h = elim (or_cases (has p Saturation) (has p Copies) h) [
+some_behind p h = elim (or_cases (has p Saturation) (has p Copies || has p BulkMemory) h) [
   | inl k ↦ (op.Simple (s.Numeric (Saturate sat.I32TruncSatF32S)), 0, refl, k, omega arith)
-  | inr k ↦ (op.Simple s.MemoryFill, 11, refl, k, omega arith)
+  | inr k ↦ elim (or_cases (has p Copies) (has p BulkMemory) k) [
+    | inl c ↦ (op.Simple s.MemoryFill, 11, refl, c, omega arith)
+    | inr b ↦ (op.Simple (s.DataDrop 0), 9, refl, b, omega arith)
+  ]
 ]
 
 -- The table ends behind the prefix.
-pub behind_small : (p : Profile) (n : ℕ) (o : Op) → code o ≡ Some (0x100 + n) → IsOpOf p o → n < 12
-behind_small p n o f h = by (nat_lt n 12) refl
+pub behind_small : (p : Profile) (n : ℕ) (o : Op) → code o ≡ Some (0x100 + n) → IsOpOf p o → n < 15
+behind_small p n o f h = by (nat_lt n 15) refl
   where
-    by : (b : Bool) → nat_lt n 12 ≡ b → n < 12
-    by true e = ltb-true n 12 e
+    by : (b : Bool) → nat_lt n 15 ≡ b → n < 15
+    by true e = ltb-true n 15 e
     by false e =
-        let l : 12 ≤ n = ltb-false n 12 e in
+        let l : 15 ≤ n = ltb-false n 15 e in
         let there = class_there o (0x100 + n) f in
         let past = slice_get_past classes (0x100 + n) (omega (arith, l)) in
         absurd (let q : Some (class_of o) ≡ Nothing = sym there ∙ past in cc)

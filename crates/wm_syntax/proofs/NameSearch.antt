@@ -30,7 +30,7 @@ abbrev pub Below : List ℕ → ℕ → Type 0
 Below w low = (i : ℕ) → i < low → slice_cmp nat_cmp (at_rank i) w ≡ Less
 
 abbrev pub Above : List ℕ → ℕ → Type 0
-Above w high = (i : ℕ) → high ≤ i → i < 187 → slice_cmp nat_cmp (at_rank i) w ≡ Greater
+Above w high = (i : ℕ) → high ≤ i → i < 192 → slice_cmp nat_cmp (at_rank i) w ≡ Greater
 
 -- All names are in rising order.
 sorted : List (List ℕ) → Bool
@@ -66,27 +66,27 @@ map_get f [] i d lt = absurd (omega (arith, lt))
 map_get f (x ∷ xs) zero d lt = refl
 map_get f (x ∷ xs) (suc i) d lt = map_get f xs i d (omega (arith, lt))
 
-in_order : (i : ℕ) → i < 187 → get_or ordered i [] ≡ at_rank i
+in_order : (i : ℕ) → i < 192 → get_or ordered i [] ≡ at_rank i
 unfolding ordered
 in_order i lt = map_get (λ b. get_or names b []) by_name i [] lt
 
-ordered_long : length ordered ≡ 187
+ordered_long : length ordered ≡ 192
 unfolding ordered
 ordered_long = refl
 
-rising : (i j : ℕ) → i < j → j < 187 → slice_cmp nat_cmp (at_rank i) (at_rank j) ≡ Less
+rising : (i j : ℕ) → i < j → j < 192 → slice_cmp nat_cmp (at_rank i) (at_rank j) ≡ Less
 rising i j lt le =
-    let ilt : i < 187 = omega arith in
+    let ilt : i < 192 = omega arith in
     subst (λ (z : List ℕ). slice_cmp nat_cmp z (at_rank j) ≡ Less) (in_order i ilt)
     (subst (λ (z : List ℕ). slice_cmp nat_cmp (get_or ordered i []) z ≡ Less) (in_order j le) (sorted_at ordered i j is_sorted lt (omega (arith, le, ordered_long))))
 
-pub below_more : (w : List ℕ) (middle : ℕ) → middle < 187 → slice_cmp nat_cmp (at_rank middle) w ≡ Less → Below w (middle + 1)
+pub below_more : (w : List ℕ) (middle : ℕ) → middle < 192 → slice_cmp nat_cmp (at_rank middle) w ≡ Less → Below w (middle + 1)
 below_more w middle lt e i il = elim (chosen (nat_lt i middle) true false _ refl) [
   | inl p ↦ nat_list_cmp_total.trans (at_rank i) (at_rank middle) w (rising i middle (ltb-true i middle p.0) lt) e
   | inr p ↦ (let same : i ≡ middle = (let ge : middle ≤ i = ltb-false i middle p.0 in omega arith) in subst (λ (k : ℕ). slice_cmp nat_cmp (at_rank k) w ≡ Less) (sym same) e)
 ]
 
-pub above_more : (w : List ℕ) (middle : ℕ) → middle < 187 → slice_cmp nat_cmp (at_rank middle) w ≡ Greater → Above w middle
+pub above_more : (w : List ℕ) (middle : ℕ) → middle < 192 → slice_cmp nat_cmp (at_rank middle) w ≡ Greater → Above w middle
 above_more w middle lt e i ge il = elim (chosen (nat_lt middle i) true false _ refl) [
   | inl p ↦ (
       let back : slice_cmp nat_cmp w (at_rank middle) ≡ Less = nat_list_cmp_total.antisymm w (at_rank middle) ∙ ap ordering_reverse e in
@@ -113,12 +113,12 @@ equal_lists (x ∷ xs) (y ∷ ys) e = let g = equal_numbers x y (slice_cmp nat_c
 rows : map (λ b. slice_get classes b) by_name ≡ map (λ b. Some (first_named classes (get_or names b []))) by_name
 rows = refl
 
-row_at : (i : ℕ) → i < 187 → slice_get classes (get_or by_name i 0) ≡ Some (first_named classes (at_rank i))
+row_at : (i : ℕ) → i < 192 → slice_get classes (get_or by_name i 0) ≡ Some (first_named classes (at_rank i))
 row_at i lt =
     sym (map_get (λ b. slice_get classes b) by_name i Nothing lt) ∙ ap (λ (z : List (Option OpClass)). get_or z i Nothing) rows
     ∙ map_get (λ b. Some (first_named classes (get_or names b []))) by_name i Nothing lt
 
-pub search_found : (p : Profile) (w : List ℕ) (middle : ℕ) → middle < 187 → slice_cmp nat_cmp (at_rank middle) w ≡ Equal → class_under p (get_or by_name middle 0) ≡ class_named p w
+pub search_found : (p : Profile) (w : List ℕ) (middle : ℕ) → middle < 192 → slice_cmp nat_cmp (at_rank middle) w ≡ Equal → class_under p (get_or by_name middle 0) ≡ class_named p w
 unfolding class_under class_named
 search_found p w middle lt e = ap (row_in p) (row_at middle lt) ∙ ap (λ (z : List ℕ). class_in p (first_named classes z)) (equal_lists (at_rank middle) w e)
 
@@ -142,11 +142,11 @@ any_get (x ∷ xs) w h = elim (or_cases (bytes_eq x w) (list_any (λ n. bytes_eq
   | inr p ↦ (let g = any_get xs w p in (suc g.0, omega (arith, g.1), g.2))
 ]
 
-ranked : (c : OpClass) (w : List ℕ) → listed c ≡ true → class_name c ≡ Some w → (i : ℕ) × (i < 187) × (at_rank i ≡ w)
+ranked : (c : OpClass) (w : List ℕ) → listed c ≡ true → class_name c ≡ Some w → (i : ℕ) × (i < 192) × (at_rank i ≡ w)
 unfolding listed
 ranked c w h e =
     let g = any_get ordered w (ap (λ (o : Option (List ℕ)). elim o as (λ _. Bool) [ Nothing ↦ true | Some name ↦ list_any (λ n. bytes_eq n name) ordered ]) (sym e) ∙ h) in
-    let lt : g.0 < 187 = omega (arith, g.1, ordered_long) in (g.0, lt, sym (in_order g.0 lt) ∙ g.2)
+    let lt : g.0 < 192 = omega (arith, g.1, ordered_long) in (g.0, lt, sym (in_order g.0 lt) ∙ g.2)
 
 none_within : (p : Profile) → class_in p None ≡ None
 none_within p = refl
@@ -158,7 +158,7 @@ search_none p w low high below above le = elim (first_has classes w) [
   | inr m ↦ absurd (apart (ranked (first_named classes w) w (get_all classes m.0 (first_named classes w) all_listed m.1) m.2))
 ]
   where
-    apart : (i : ℕ) × (i < 187) × (at_rank i ≡ w) → ⊥
+    apart : (i : ℕ) × (i < 192) × (at_rank i ≡ w) → ⊥
     apart (i, lt, e) =
         let tied : slice_cmp nat_cmp (at_rank i) w ≡ Equal = ap (λ (z : List ℕ). slice_cmp nat_cmp z w) e ∙ tied_itself nat_list_cmp_total w in
         elim (chosen (nat_lt i low) true false _ refl) [

@@ -193,7 +193,7 @@ name_there b (op.BrTable n) h = there 0x0E b (codes "br_table") refl h
 name_there b (op.Label l) h = cc
 
 -- past the table there is no name
-pub name_past : (n : ℕ) → 0x10C ≤ n → slice_index_or names n [] ≡ []
+pub name_past : (n : ℕ) → 0x10F ≤ n → slice_index_or names n [] ≡ []
 name_past n l = get_or_past names n [] l
 
 -- The clauses of the answer.

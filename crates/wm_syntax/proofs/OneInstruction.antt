@@ -14,6 +14,8 @@ use Rattle.wm_syntax.specs.declared.instructions.Simple.{Simple}
 use Rattle.wm_syntax.specs.declared.instructions.Simple.TheVariants as s
 use Rattle.wm_syntax.specs.declared.instructions.Op.{Op}
 use Rattle.wm_syntax.specs.declared.instructions.Op.TheVariants as op
+use Rattle.wm_syntax.specs.declared.instructions.op_class.BlockOp.TheVariants as opening
+use Rattle.wm_syntax.specs.declared.instructions.op_class.Indexed.TheVariants as indexed
 use Rattle.wm_syntax.specs.declared.instructions.op_class.Immediates.TheVariants as k
 use Rattle.wm_syntax.specs.declared.instructions.op_class.OpClass.{OpClass}
 use Rattle.wm_syntax.specs.declared.instructions.op_class.OpClass.TheVariants.{Plain, With}
@@ -56,12 +58,12 @@ heads_same e = cc
 -- The class at the first byte of an op in the table.
 pub class_there : (o : Op) (c : ℕ) → code o ≡ Some c → slice_get classes c ≡ Some (class_of o)
 class_there (op.Simple i) c f = subst (λ (n : ℕ). slice_get classes n ≡ Some (class_of (op.Simple i))) (some_same f) (found_simple i)
-class_there (op.Block t) c f = subst (λ (n : ℕ). slice_get classes n ≡ Some (With k.Block)) (some_same f) refl
-class_there (op.Loop t) c f = subst (λ (n : ℕ). slice_get classes n ≡ Some (With k.Loop)) (some_same f) refl
-class_there (op.If t) c f = subst (λ (n : ℕ). slice_get classes n ≡ Some (With k.If)) (some_same f) refl
+class_there (op.Block t) c f = subst (λ (n : ℕ). slice_get classes n ≡ Some (With (k.Block opening.Block))) (some_same f) refl
+class_there (op.Loop t) c f = subst (λ (n : ℕ). slice_get classes n ≡ Some (With (k.Block opening.Loop))) (some_same f) refl
+class_there (op.If t) c f = subst (λ (n : ℕ). slice_get classes n ≡ Some (With (k.Block opening.If))) (some_same f) refl
 class_there op.Else c f = subst (λ (n : ℕ). slice_get classes n ≡ Some (Plain op.Else)) (some_same f) refl
 class_there op.End c f = subst (λ (n : ℕ). slice_get classes n ≡ Some (Plain op.End)) (some_same f) refl
-class_there (op.BrTable n) c f = subst (λ (n : ℕ). slice_get classes n ≡ Some (With k.BrTable)) (some_same f) refl
+class_there (op.BrTable n) c f = subst (λ (n : ℕ). slice_get classes n ≡ Some (With (k.Index indexed.BrTable))) (some_same f) refl
 class_there (op.Label l) c f = cc
 
 -- no op has the code FC
@@ -91,10 +93,8 @@ same_class i j a b u v p q e =
 
 -- The classes that no simple instruction has.
 is_structured : OpClass → Bool
-is_structured (With k.Block) = true
-is_structured (With k.Loop) = true
-is_structured (With k.If) = true
-is_structured (With k.BrTable) = true
+is_structured (With (k.Block o)) = true
+is_structured (With (k.Index indexed.BrTable)) = true
 is_structured (Plain op.Else) = true
 is_structured (Plain op.End) = true
 is_structured _ = false

@@ -6,15 +6,20 @@ use Rattle.wm_syntax.specs.declared.instructions.Op.{Op}
 use Rattle.wm_syntax.specs.declared.instructions.Op.TheVariants as op
 use Rattle.wm_syntax.specs.declared.instructions.Simple.TheVariants as s
 use Rattle.wm_syntax.specs.declared.instructions.op_class.Immediates.{Immediates}
+use Rattle.wm_syntax.specs.declared.instructions.op_class.BlockOp.TheVariants as opening
+use Rattle.wm_syntax.specs.declared.instructions.op_class.Indexed.TheVariants as indexed
+use Rattle.wm_syntax.specs.declared.instructions.op_class.MemoryOp.TheVariants as memory
+use Rattle.wm_syntax.specs.declared.instructions.op_class.LoadOrStore.TheVariants as accesses
 use Rattle.wm_syntax.specs.declared.instructions.op_class.Immediates.TheVariants as k
 use Rattle.wm_syntax.specs.declared.instructions.op_class.OpClass.{OpClass}
 use Rattle.wm_syntax.specs.declared.instructions.op_class.OpClass.TheVariants.{Plain, With, Float, None}
 use Rattle.wm_syntax.specs.Opcodes.{opcode}
 use Rattle.wm_syntax.specs.OpClasses.{class_of, code, is_float, IsClassOfOp}
+use Rattle.wm_syntax.specs.exact.OpShapes.{access_op, block_op, index_op, memory_op}
 use Rattle.wm_syntax.specs.exact.ByteTable.{classes, class_feature, class_in, left_out}
 use Rattle.wm_syntax.specs.Profiles.{IsOpOf, feature_of, has}
 use Rattle.wm_syntax.specs.declared.profile.Feature.{Feature}
-use Rattle.wm_syntax.specs.declared.profile.Feature.TheVariants.{Base, Floats, SignExtension, LongIndex, Saturation, Copies}
+use Rattle.wm_syntax.specs.declared.profile.Feature.TheVariants.{Base, Floats, SignExtension, LongIndex, Saturation, Copies, BulkMemory}
 use Rattle.wm_syntax.specs.declared.profile.Profile.{Profile}
 use Rattle.wm_syntax.specs.declared.instructions.IntType.TheVariants.{I32, I64}
 use Rattle.wm_syntax.specs.declared.instructions.FloatType.TheVariants as float
@@ -107,16 +112,18 @@ found_op byte c e op.End f = same_place 0x0B byte c _ e refl f
 found_op byte c e (op.BrTable n) f = same_place 0x0E byte c _ e refl f
 found_op byte c e (op.Label l) f = cc
 
--- behind the prefix there are instructions of two features only
+-- behind the prefix there are instructions of three features only
 pub is_behind : Feature → Bool
 is_behind Saturation = true
 is_behind Copies = true
+is_behind BulkMemory = true
 is_behind _ = false
 
-pub behind_features : (f : Feature) → is_behind f ≡ true → (f ≡ Saturation) ⊎ (f ≡ Copies)
+pub behind_features : (f : Feature) → is_behind f ≡ true → (f ≡ Saturation) ⊎ ((f ≡ Copies) ⊎ (f ≡ BulkMemory))
 unfolding is_behind
 behind_features Saturation e = inl refl
-behind_features Copies e = inr refl
+behind_features Copies e = inr (inl refl)
+behind_features BulkMemory e = inr (inr refl)
 behind_features Base e = cc
 behind_features Floats e = cc
 behind_features SignExtension e = cc
@@ -151,8 +158,13 @@ behind_at x o e l = by (nat_lt x 0x100) refl (subst (λ (m : ℕ). (nat_lt m 0x1
 
 -- the length of the code, by the class
 kind_len : Immediates → ℕ
-kind_len k.MemoryCopy = 2
-kind_len k.MemoryFill = 2
+kind_len (k.Memory memory.MemoryCopy) = 2
+kind_len (k.Memory memory.MemoryFill) = 2
+kind_len k.MemoryInit = 2
+kind_len (k.Index indexed.DataDrop) = 2
+kind_len k.TableInit = 2
+kind_len (k.Index indexed.ElemDrop) = 2
+kind_len k.TableCopy = 2
 kind_len _ = 1
 
 class_len : OpClass → ℕ
@@ -196,7 +208,7 @@ long_code i e = by (nat_lt (opcode i).0 0x100) refl (sym (code_length i) ∙ e)
     by true f h = absurd (omega (arith, h))
     by false f h = ltb-false (opcode i).0 0x100 f
 
-pub small_code : (i : Simple) → (opcode i).0 < 0x10C
+pub small_code : (i : Simple) → (opcode i).0 < 0x10F
 small_code i = slice_get_within classes (opcode i).0 (class_of (op.Simple i)) (found_simple i)
 
 -- the bytes of floating-point instructions are those of the table
@@ -230,6 +242,7 @@ floats_feature SignExtension e = cc
 floats_feature LongIndex e = cc
 floats_feature Saturation e = cc
 floats_feature Copies e = cc
+floats_feature BulkMemory e = cc
 
 -- No row of the table is Float, which is the answer of a profile without floats.
 is_no_float : OpClass → Bool
@@ -249,29 +262,18 @@ not_float byte c e f =
 -- an instruction of a class
 sample : OpClass → Op
 sample (Plain o) = o
-sample (With k.Block) = op.Block Nothing
-sample (With k.Loop) = op.Loop Nothing
-sample (With k.If) = op.If Nothing
-sample (With k.Br) = op.Simple (s.Br 0)
-sample (With k.BrIf) = op.Simple (s.BrIf 0)
-sample (With k.BrTable) = op.BrTable 0
-sample (With k.Call) = op.Simple (s.Call 0)
+sample (With (k.Block o)) = block_op o Nothing
+sample (With (k.Index i)) = index_op i 0
 sample (With k.CallIndirect) = op.Simple (s.CallIndirect 0)
-sample (With k.LocalGet) = op.Simple (s.LocalGet 0)
-sample (With k.LocalSet) = op.Simple (s.LocalSet 0)
-sample (With k.LocalTee) = op.Simple (s.LocalTee 0)
-sample (With k.GlobalGet) = op.Simple (s.GlobalGet 0)
-sample (With k.GlobalSet) = op.Simple (s.GlobalSet 0)
-sample (With k.MemorySize) = op.Simple s.MemorySize
-sample (With k.MemoryGrow) = op.Simple s.MemoryGrow
-sample (With k.MemoryCopy) = op.Simple s.MemoryCopy
-sample (With k.MemoryFill) = op.Simple s.MemoryFill
+sample (With (k.Memory m)) = memory_op m
+sample (With k.MemoryInit) = op.Simple (s.MemoryInit 0)
+sample (With k.TableInit) = op.Simple (s.TableInit 0)
+sample (With k.TableCopy) = op.Simple s.TableCopy
 sample (With k.I32Const) = op.Simple (s.I32Const (pos 0))
 sample (With k.I64Const) = op.Simple (s.I64Const (pos 0))
 sample (With k.F32Const) = op.Simple (s.F32Const 0)
 sample (With k.F64Const) = op.Simple (s.F64Const 0)
-sample (With (k.Load o)) = op.Simple (s.Load o (record { align = 0; offset = 0 }))
-sample (With (k.Store o)) = op.Simple (s.Store o (record { align = 0; offset = 0 }))
+sample (With (k.Access a)) = access_op a (record { align = 0; offset = 0 })
 sample Float = op.End
 sample None = op.End
 
@@ -299,9 +301,11 @@ is_at_means (Some m) n e = ap Some (let q : m ≡ n = grind (arith, nat_tests) i
 
 with_class : (kind : Immediates) → class_of (sample (With kind)) ≡ With kind
 unfolding sample
-with_class k.Block = refl
-with_class (k.Load o) = refl
-with_class (k.Store o) = refl
+with_class (k.Block opening.Block) = refl
+with_class (k.Index indexed.Br) = refl
+with_class (k.Memory memory.MemorySize) = refl
+with_class (k.Access (accesses.Load o)) = refl
+with_class (k.Access (accesses.Store o)) = refl
 with_class _ = refl
 
 plain_class : (o : Op) → is_plain_class (class_of o) ≡ true → class_of o ≡ Plain o
@@ -352,24 +356,29 @@ with_plain kind o e = cc
 sample_has : (p : Profile) (c : OpClass) → class_of (sample c) ≡ c → IsTrue (has p (class_feature c)) → IsOpOf p (sample c)
 unfolding sample
 sample_has p (Plain (op.Simple i)) e h = h
-sample_has p (Plain (op.Block t)) e h = absurd (with_plain k.Block (op.Block t) e)
-sample_has p (Plain (op.Loop t)) e h = absurd (with_plain k.Loop (op.Loop t) e)
-sample_has p (Plain (op.If t)) e h = absurd (with_plain k.If (op.If t) e)
+sample_has p (Plain (op.Block t)) e h = absurd (with_plain (k.Block opening.Block) (op.Block t) e)
+sample_has p (Plain (op.Loop t)) e h = absurd (with_plain (k.Block opening.Loop) (op.Loop t) e)
+sample_has p (Plain (op.If t)) e h = absurd (with_plain (k.Block opening.If) (op.If t) e)
 sample_has p (Plain _) e h = tt
-sample_has p (With k.Block) e h = tt
-sample_has p (With k.Loop) e h = tt
-sample_has p (With k.If) e h = tt
-sample_has p (With k.BrTable) e h = tt
+sample_has p (With (k.Block opening.Block)) e h = tt
+sample_has p (With (k.Block opening.Loop)) e h = tt
+sample_has p (With (k.Block opening.If)) e h = tt
+sample_has p (With (k.Index indexed.BrTable)) e h = tt
 sample_has p (With k.F32Const) e h = h
 sample_has p (With k.F64Const) e h = h
-sample_has p (With k.MemoryCopy) e h = h
-sample_has p (With k.MemoryFill) e h = h
-sample_has p (With (k.Load F32Load)) e h = h
-sample_has p (With (k.Load F64Load)) e h = h
-sample_has p (With (k.Load _)) e h = refl
-sample_has p (With (k.Store F32Store)) e h = h
-sample_has p (With (k.Store F64Store)) e h = h
-sample_has p (With (k.Store _)) e h = refl
+sample_has p (With (k.Memory memory.MemoryCopy)) e h = h
+sample_has p (With (k.Memory memory.MemoryFill)) e h = h
+sample_has p (With k.MemoryInit) e h = h
+sample_has p (With (k.Index indexed.DataDrop)) e h = h
+sample_has p (With k.TableInit) e h = h
+sample_has p (With (k.Index indexed.ElemDrop)) e h = h
+sample_has p (With k.TableCopy) e h = h
+sample_has p (With (k.Access (accesses.Load F32Load))) e h = h
+sample_has p (With (k.Access (accesses.Load F64Load))) e h = h
+sample_has p (With (k.Access (accesses.Load _))) e h = refl
+sample_has p (With (k.Access (accesses.Store F32Store))) e h = h
+sample_has p (With (k.Access (accesses.Store F64Store))) e h = h
+sample_has p (With (k.Access (accesses.Store _))) e h = refl
 sample_has p (With _) e h = refl
 sample_has p Float e h = tt
 sample_has p None e h = tt
@@ -385,6 +394,7 @@ no_left_out SignExtension h = h
 no_left_out LongIndex h = h
 no_left_out Saturation h = h
 no_left_out Copies h = h
+no_left_out BulkMemory h = h
 
 left_out_float : (f : Feature) → is_floats f ≡ true → left_out f ≡ Float
 unfolding is_floats
@@ -394,6 +404,7 @@ left_out_float SignExtension e = cc
 left_out_float LongIndex e = cc
 left_out_float Saturation e = cc
 left_out_float Copies e = cc
+left_out_float BulkMemory e = cc
 
 float_left_out : (f : Feature) → left_out f ≡ Float → is_floats f ≡ true
 unfolding is_floats
@@ -403,6 +414,7 @@ float_left_out SignExtension e = cc
 float_left_out LongIndex e = cc
 float_left_out Saturation e = cc
 float_left_out Copies e = cc
+float_left_out BulkMemory e = cc
 
 -- A class under a profile is the class itself, or the answer for a missing feature.
 module _ (c : OpClass) where

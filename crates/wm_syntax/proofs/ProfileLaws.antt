@@ -1,23 +1,25 @@
 -- Profiles: their types, ops and instructions.
 use Rattle.std.proofs.Common.{◌≡◌, false, true, IsTrue, ℕ, List, [], ◌∷◌, ◌++◌, ◌↔◌, Option, None, Some, map, inl, inr, refl, subst}
 use Rattle.std.specs.List.{AllByRecursion}
-use Rattle.wm_syntax.specs.declared.profile.Feature.TheVariants.{Base, Floats, SignExtension, LongIndex, Saturation, Copies}
+use Rattle.wm_syntax.specs.declared.profile.Feature.TheVariants.{Base, Floats, SignExtension, LongIndex, Saturation, Copies, BulkMemory}
 use Rattle.wm_syntax.specs.declared.profile.Profile.{Profile}
 use Rattle.wm_syntax.specs.declared.instructions.Op.{Op}
 use Rattle.wm_syntax.specs.declared.instructions.Op.TheVariants as op
 use Rattle.wm_syntax.specs.Instructions.{HasElse, HasOp, HasOps, Instruction, Instructions, none, snoc, simple, table, block, loop, choice}
 use Rattle.wm_syntax.specs.declared.modules.ImportDesc.{ImportDesc}
 use Rattle.wm_syntax.specs.declared.modules.ImportDesc.TheVariants.{Global}
+use Rattle.wm_syntax.specs.declared.modules.SegmentMode.{SegmentMode}
+use Rattle.wm_syntax.specs.declared.modules.SegmentMode.TheVariants.{Passive, Active}
 use Rattle.wm_syntax.specs.declared.types.Const.{Const}
 use Rattle.wm_syntax.specs.declared.types.ValType.{ValType}
 use Rattle.wm_syntax.specs.declared.types.ValType.TheVariants.{I32, I64, F32, F64}
 use Rattle.wm_syntax.specs.declared.instructions.Simple.{Simple}
-use Rattle.wm_syntax.specs.declared.instructions.Simple.TheVariants.{F32Const, F64Const, Load, MemoryCopy, MemoryFill, Store, Numeric}
+use Rattle.wm_syntax.specs.declared.instructions.Simple.TheVariants.{DataDrop, ElemDrop, F32Const, F64Const, Load, MemoryCopy, MemoryFill, MemoryInit, Store, Numeric, TableCopy, TableInit}
 use Rattle.wm_syntax.specs.declared.instructions.Numeric.TheVariants.{FloatCompare, FloatUnary, FloatBinary, Convert, Saturate, SignExtend}
 use Rattle.wm_syntax.specs.declared.instructions.LoadOp.TheVariants.{F32Load, F64Load}
 use Rattle.wm_syntax.specs.declared.instructions.StoreOp.TheVariants.{F32Store, F64Store}
 use Rattle.wm_syntax.specs.Modules.{Element, Function, GlobalDef, Import, Module, Segment, constant}
-use Rattle.wm_syntax.specs.Profiles.{Extends, HasBlockType, HasConst, HasDesc, HasFunction, HasGlobal, HasInstruction, HasInstructions, HasSignature, HasType, IsOf, IsOpOf, every, feature_of, four, has, one, three, two, type_feature}
+use Rattle.wm_syntax.specs.Profiles.{Extends, HasBlockType, HasConst, HasDesc, HasFunction, HasGlobal, HasInstruction, HasInstructions, HasMode, HasSignature, HasType, IsOf, IsOpOf, every, feature_of, four, has, one, three, two, type_feature}
 use Rattle.wm_syntax.specs.Types.{Signature}
 
 -- A property of each member of a list, and another that follows from it.
@@ -66,14 +68,18 @@ module _ (p q : Profile) (more : Extends q p) where
   global_more : (g : GlobalDef) → HasGlobal p g → HasGlobal q g
   global_more g h = (type_more g.ty.ty h.0, const_more g.init h.1)
 
+  pub mode_more : (d : SegmentMode) → HasMode p d → HasMode q d
+  mode_more Passive h = more BulkMemory h
+  mode_more (Active x c) h = const_more c h
+
   pub is_of_more : (m : Module) → IsOf p m → IsOf q m
   is_of_more m h = record {
     types = all_each (HasSignature p) (HasSignature q) signature_more m.types h.types;
     imports = all_each (λ (i : Import). HasDesc p i.desc) (λ (i : Import). HasDesc q i.desc) (λ i k. desc_more i.desc k) m.imports h.imports;
     functions = all_each (HasFunction p) (HasFunction q) function_more m.functions h.functions;
     globals = all_each (HasGlobal p) (HasGlobal q) global_more m.globals h.globals;
-    elements = all_each (λ (e : Element). HasConst p e.offset) (λ (e : Element). HasConst q e.offset) (λ e k. const_more e.offset k) m.elements h.elements;
-    segments = all_each (λ (s : Segment). HasConst p s.offset) (λ (s : Segment). HasConst q s.offset) (λ s k. const_more s.offset k) m.segments h.segments;
+    elements = all_each (λ (e : Element). HasMode p e.mode) (λ (e : Element). HasMode q e.mode) (λ e k. mode_more e.mode k) m.elements h.elements;
+    segments = all_each (λ (s : Segment). HasMode p s.mode) (λ (s : Segment). HasMode q s.mode) (λ s k. mode_more s.mode k) m.segments h.segments;
   }
 
   pub op_of_more : (o : Op) → IsOpOf p o → IsOpOf q o
@@ -90,6 +96,7 @@ extends_one q SignExtension h = let e : false ≡ true = h in cc
 extends_one q LongIndex h = let e : false ≡ true = h in cc
 extends_one q Saturation h = let e : false ≡ true = h in cc
 extends_one q Copies h = let e : false ≡ true = h in cc
+extends_one q BulkMemory h = let e : false ≡ true = h in cc
 
 pub every_extends : (p : Profile) → Extends every p
 every_extends p Base h = refl
@@ -98,6 +105,7 @@ every_extends p SignExtension h = refl
 every_extends p LongIndex h = refl
 every_extends p Saturation h = refl
 every_extends p Copies h = refl
+every_extends p BulkMemory h = refl
 
 pub four_extends_two : Extends four two
 four_extends_two Base h = refl
@@ -106,6 +114,7 @@ four_extends_two SignExtension h = refl
 four_extends_two LongIndex h = h
 four_extends_two Saturation h = h
 four_extends_two Copies h = h
+four_extends_two BulkMemory h = h
 
 pub four_extends_three : Extends four three
 four_extends_three Base h = refl
@@ -114,6 +123,7 @@ four_extends_three SignExtension h = refl
 four_extends_three LongIndex h = h
 four_extends_three Saturation h = h
 four_extends_three Copies h = h
+four_extends_three BulkMemory h = h
 
 -- The profile `every` has the feature of every instruction and of every type, so everything belongs to it.
 every_has_type : (t : ValType) → IsTrue (has every (type_feature t))
@@ -137,6 +147,11 @@ every_has_simple (Numeric (SignExtend op)) = refl
 every_has_simple (Numeric (Saturate op)) = refl
 every_has_simple MemoryCopy = refl
 every_has_simple MemoryFill = refl
+every_has_simple (MemoryInit x) = refl
+every_has_simple (DataDrop x) = refl
+every_has_simple (TableInit x) = refl
+every_has_simple (ElemDrop x) = refl
+every_has_simple TableCopy = refl
 every_has_simple _ = refl
 
 module _ {X : Type 0} (P : X → Type 0) (each : (x : X) → P x) where
@@ -153,6 +168,10 @@ block_type_of_every (Some t) = type_of_every t
 
 const_of_every : (c : Const) → HasConst every c
 const_of_every c = every_has_simple (constant c)
+
+mode_of_every : (d : SegmentMode) → HasMode every d
+mode_of_every Passive = refl
+mode_of_every (Active x c) = const_of_every c
 
 mutual
   instruction_of_every : (i : Instruction) → HasInstruction every i
@@ -179,8 +198,8 @@ module_of_every m = record {
   imports = all_of_each (λ (i : Import). HasDesc every i.desc) (λ i. desc_of_every i.desc) m.imports;
   functions = all_of_each (HasFunction every) (λ f. (types_of_every f.locals, instructions_of_every f.body)) m.functions;
   globals = all_of_each (HasGlobal every) (λ g. (type_of_every g.ty.ty, const_of_every g.init)) m.globals;
-  elements = all_of_each (λ (e : Element). HasConst every e.offset) (λ e. const_of_every e.offset) m.elements;
-  segments = all_of_each (λ (s : Segment). HasConst every s.offset) (λ s. const_of_every s.offset) m.segments;
+  elements = all_of_each (λ (e : Element). HasMode every e.mode) (λ e. mode_of_every e.mode) m.elements;
+  segments = all_of_each (λ (s : Segment). HasMode every s.mode) (λ s. mode_of_every s.mode) m.segments;
 }
 
 -- A property of each member of a joined list.

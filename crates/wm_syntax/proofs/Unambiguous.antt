@@ -98,6 +98,19 @@ same_immediates s.MemoryCopy s.MemoryCopy c a b u v p q h = (two_same a b p q, r
 same_immediates s.MemoryCopy _ c a b u v p q h = cc
 same_immediates s.MemoryFill s.MemoryFill c a b u v p q h = (p ∙ sym q, refl)
 same_immediates s.MemoryFill _ c a b u v p q h = cc
+same_immediates (s.MemoryInit x) (s.MemoryInit y) c a b u v p q h =
+    let r : (a ≡ b) × (x ≡ y) × Unit {0} = then_same (Unsigned 32 x) (Byte 0x00) (Unsigned 32 y) (Byte 0x00) (x ≡ y) (Unit {0}) (λ a b u v p q h. same_u32 x y a b u v p q h) (λ a b u v p q h. (p ∙ sym q, tt)) a b u v p q h in (r.0, ap s.MemoryInit r.1)
+same_immediates (s.MemoryInit x) _ c a b u v p q h = cc
+same_immediates (s.DataDrop x) (s.DataDrop y) c a b u v p q h = let r : (a ≡ b) × (x ≡ y) = same_u32 x y a b u v p q h in (r.0, ap s.DataDrop r.1)
+same_immediates (s.DataDrop x) _ c a b u v p q h = cc
+same_immediates (s.TableInit x) (s.TableInit y) c a b u v p q h =
+    let r : (a ≡ b) × (x ≡ y) × ◌≡◌ {A = ℕ} 0 0 = then_same (Unsigned 32 x) (Unsigned 32 0) (Unsigned 32 y) (Unsigned 32 0) (x ≡ y) (◌≡◌ {A = ℕ} 0 0) (λ a b u v p q h. same_u32 x y a b u v p q h) (λ a b u v p q h. same_u32 0 0 a b u v p q h) a b u v p q h in (r.0, ap s.TableInit r.1)
+same_immediates (s.TableInit x) _ c a b u v p q h = cc
+same_immediates (s.ElemDrop x) (s.ElemDrop y) c a b u v p q h = let r : (a ≡ b) × (x ≡ y) = same_u32 x y a b u v p q h in (r.0, ap s.ElemDrop r.1)
+same_immediates (s.ElemDrop x) _ c a b u v p q h = cc
+same_immediates s.TableCopy s.TableCopy c a b u v p q h =
+    let r : (a ≡ b) × ◌≡◌ {A = ℕ} 0 0 × ◌≡◌ {A = ℕ} 0 0 = then_same (Unsigned 32 0) (Unsigned 32 0) (Unsigned 32 0) (Unsigned 32 0) (◌≡◌ {A = ℕ} 0 0) (◌≡◌ {A = ℕ} 0 0) (λ a b u v p q h. same_u32 0 0 a b u v p q h) (λ a b u v p q h. same_u32 0 0 a b u v p q h) a b u v p q h in (r.0, refl)
+same_immediates s.TableCopy _ c a b u v p q h = cc
 same_immediates (s.I32Const x) (s.I32Const y) c a b u v p q h = let r : (a ≡ b) × (x ≡ y) = same_signed 32 x y a b u v p q h in (r.0, ap s.I32Const r.1)
 same_immediates (s.I32Const x) _ c a b u v p q h = cc
 same_immediates (s.I64Const x) (s.I64Const y) c a b u v p q h = let r : (a ≡ b) × (x ≡ y) = same_signed 64 x y a b u v p q h in (r.0, ap s.I64Const r.1)

@@ -13,7 +13,8 @@ use Rattle.wm_syntax.specs.declared.instructions.Simple.{Simple}
 use Rattle.wm_syntax.specs.declared.instructions.Simple.TheVariants.{Br, BrIf, Call, CallIndirect, LocalGet}
 use Rattle.wm_syntax.specs.declared.instructions.Simple.TheVariants.{LocalSet, LocalTee, GlobalGet, GlobalSet}
 use Rattle.wm_syntax.specs.declared.instructions.Simple.TheVariants.{MemorySize, MemoryGrow, I32Const}
-use Rattle.wm_syntax.specs.declared.instructions.Simple.TheVariants.{MemoryCopy, MemoryFill}
+use Rattle.wm_syntax.specs.declared.instructions.Simple.TheVariants.{MemoryCopy, MemoryFill, MemoryInit, DataDrop}
+use Rattle.wm_syntax.specs.declared.instructions.Simple.TheVariants.{TableInit, ElemDrop, TableCopy}
 use Rattle.wm_syntax.specs.declared.instructions.Simple.TheVariants.{I64Const, F32Const, F64Const}
 use Rattle.wm_syntax.specs.declared.instructions.Simple.TheVariants.{Load, Store}
 use Rattle.wm_syntax.specs.declared.instructions.Op.{Op}
@@ -43,7 +44,8 @@ SpellsOpcodeBy false c = Byte 0xFC ▸ SpellsU32 (c - 0x100)
 abbrev pub SpellsOpcode : ℕ → Form ℕ
 SpellsOpcode c = SpellsOpcodeBy (nat_lt c 0x100) c
 
--- The immediates, which follow the code of an instruction (Core spec 5.4.1 to 5.4.5, WebAssembly 2.0 5.4.6).
+-- The immediates, which follow the code of an instruction (Core spec 5.4.1 to 5.4.5, WebAssembly 2.0 5.4.5,
+-- 5.4.6).
 abbrev pub SpellsImmediates : Profile → Simple → Form ℕ
 SpellsImmediates p (Br l) = SpellsU32 l
 SpellsImmediates p (BrIf l) = SpellsU32 l
@@ -58,6 +60,11 @@ SpellsImmediates p MemorySize = Byte 0x00
 SpellsImmediates p MemoryGrow = Byte 0x00
 SpellsImmediates p MemoryCopy = Byte 0x00 ▸ Byte 0x00
 SpellsImmediates p MemoryFill = Byte 0x00
+SpellsImmediates p (MemoryInit x) = SpellsU32 x ▸ Byte 0x00
+SpellsImmediates p (DataDrop x) = SpellsU32 x
+SpellsImmediates p (TableInit x) = SpellsU32 x ▸ SpellsU32 0
+SpellsImmediates p (ElemDrop x) = SpellsU32 x
+SpellsImmediates p TableCopy = SpellsU32 0 ▸ SpellsU32 0
 SpellsImmediates p (I32Const n) = Signed 32 n
 SpellsImmediates p (I64Const n) = Signed 64 n
 SpellsImmediates p (F32Const n) = SpellsFloat 4 n

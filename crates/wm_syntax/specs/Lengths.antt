@@ -8,7 +8,8 @@ use Rattle.wm_syntax.specs.declared.instructions.Simple.{Simple}
 use Rattle.wm_syntax.specs.declared.instructions.Simple.TheVariants.{Br, BrIf, Call, CallIndirect, LocalGet}
 use Rattle.wm_syntax.specs.declared.instructions.Simple.TheVariants.{LocalSet, LocalTee, GlobalGet, GlobalSet}
 use Rattle.wm_syntax.specs.declared.instructions.Simple.TheVariants.{MemorySize, MemoryGrow, I32Const}
-use Rattle.wm_syntax.specs.declared.instructions.Simple.TheVariants.{MemoryCopy, MemoryFill, Numeric}
+use Rattle.wm_syntax.specs.declared.instructions.Simple.TheVariants.{MemoryCopy, MemoryFill, MemoryInit, DataDrop, Numeric}
+use Rattle.wm_syntax.specs.declared.instructions.Simple.TheVariants.{TableInit, ElemDrop, TableCopy}
 use Rattle.wm_syntax.specs.declared.instructions.Numeric.TheVariants.{Saturate}
 use Rattle.wm_syntax.specs.declared.instructions.Simple.TheVariants.{I64Const, F32Const, F64Const}
 use Rattle.wm_syntax.specs.declared.instructions.Simple.TheVariants.{Load, Store}
@@ -22,9 +23,14 @@ abbrev pub code_len : Simple → ℕ
 code_len (Numeric (Saturate op)) = 2
 code_len MemoryCopy = 2
 code_len MemoryFill = 2
+code_len (MemoryInit x) = 2
+code_len (DataDrop x) = 2
+code_len (TableInit x) = 2
+code_len (ElemDrop x) = 2
+code_len TableCopy = 2
 code_len _ = 1
 
--- The length of the immediates of an instruction (Core spec 5.4.1 to 5.4.5, WebAssembly 2.0 5.4.6).
+-- The length of the immediates of an instruction (Core spec 5.4.1 to 5.4.5, WebAssembly 2.0 5.4.5, 5.4.6).
 abbrev pub immediates_len : Simple → ℕ
 immediates_len (Br l) = index_len l
 immediates_len (BrIf l) = index_len l
@@ -39,6 +45,11 @@ immediates_len MemorySize = 1
 immediates_len MemoryGrow = 1
 immediates_len MemoryCopy = 2
 immediates_len MemoryFill = 1
+immediates_len (MemoryInit x) = index_len x + 1
+immediates_len (DataDrop x) = index_len x
+immediates_len (TableInit x) = index_len x + 1
+immediates_len (ElemDrop x) = index_len x
+immediates_len TableCopy = 2
 immediates_len (I32Const n) = length (signed_bytes 5 n)
 immediates_len (I64Const n) = length (signed_bytes 10 n)
 immediates_len (F32Const n) = 4

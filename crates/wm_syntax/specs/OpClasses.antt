@@ -6,35 +6,44 @@ use Rattle.wm_syntax.specs.declared.instructions.Simple.TheVariants as s
 use Rattle.wm_syntax.specs.declared.instructions.Op.TheVariants as op
 use Rattle.wm_syntax.specs.declared.instructions.Op.{Op}
 use Rattle.wm_syntax.specs.Opcodes.{op_code}
+use Rattle.wm_syntax.specs.declared.instructions.op_class.BlockOp.TheVariants as opening
+use Rattle.wm_syntax.specs.declared.instructions.op_class.Indexed.TheVariants as indexed
+use Rattle.wm_syntax.specs.declared.instructions.op_class.MemoryOp.TheVariants as memory
+use Rattle.wm_syntax.specs.declared.instructions.op_class.LoadOrStore.TheVariants as accesses
 use Rattle.wm_syntax.specs.declared.instructions.op_class.Immediates.TheVariants as k
 use Rattle.wm_syntax.specs.declared.instructions.op_class.OpClass.{OpClass}
 use Rattle.wm_syntax.specs.declared.instructions.op_class.OpClass.TheVariants.{Plain, With, Float, None}
 
--- The class of an op: its kind if it has immediates, else the op itself.
+-- The class of an op: the shape of its immediates if it has any, else the op itself.
 abbrev pub class_of : Op → OpClass
-class_of (op.Simple (s.Br l)) = With k.Br
-class_of (op.Simple (s.BrIf l)) = With k.BrIf
-class_of (op.Simple (s.Call x)) = With k.Call
+class_of (op.Simple (s.Br l)) = With (k.Index indexed.Br)
+class_of (op.Simple (s.BrIf l)) = With (k.Index indexed.BrIf)
+class_of (op.Simple (s.Call x)) = With (k.Index indexed.Call)
 class_of (op.Simple (s.CallIndirect x)) = With k.CallIndirect
-class_of (op.Simple (s.LocalGet x)) = With k.LocalGet
-class_of (op.Simple (s.LocalSet x)) = With k.LocalSet
-class_of (op.Simple (s.LocalTee x)) = With k.LocalTee
-class_of (op.Simple (s.GlobalGet x)) = With k.GlobalGet
-class_of (op.Simple (s.GlobalSet x)) = With k.GlobalSet
-class_of (op.Simple s.MemorySize) = With k.MemorySize
-class_of (op.Simple s.MemoryGrow) = With k.MemoryGrow
-class_of (op.Simple s.MemoryCopy) = With k.MemoryCopy
-class_of (op.Simple s.MemoryFill) = With k.MemoryFill
+class_of (op.Simple (s.LocalGet x)) = With (k.Index indexed.LocalGet)
+class_of (op.Simple (s.LocalSet x)) = With (k.Index indexed.LocalSet)
+class_of (op.Simple (s.LocalTee x)) = With (k.Index indexed.LocalTee)
+class_of (op.Simple (s.GlobalGet x)) = With (k.Index indexed.GlobalGet)
+class_of (op.Simple (s.GlobalSet x)) = With (k.Index indexed.GlobalSet)
+class_of (op.Simple s.MemorySize) = With (k.Memory memory.MemorySize)
+class_of (op.Simple s.MemoryGrow) = With (k.Memory memory.MemoryGrow)
+class_of (op.Simple s.MemoryCopy) = With (k.Memory memory.MemoryCopy)
+class_of (op.Simple s.MemoryFill) = With (k.Memory memory.MemoryFill)
+class_of (op.Simple (s.MemoryInit x)) = With k.MemoryInit
+class_of (op.Simple (s.DataDrop x)) = With (k.Index indexed.DataDrop)
+class_of (op.Simple (s.TableInit x)) = With k.TableInit
+class_of (op.Simple (s.ElemDrop x)) = With (k.Index indexed.ElemDrop)
+class_of (op.Simple s.TableCopy) = With k.TableCopy
 class_of (op.Simple (s.I32Const n)) = With k.I32Const
 class_of (op.Simple (s.I64Const n)) = With k.I64Const
 class_of (op.Simple (s.F32Const n)) = With k.F32Const
 class_of (op.Simple (s.F64Const n)) = With k.F64Const
-class_of (op.Simple (s.Load o at)) = With (k.Load o)
-class_of (op.Simple (s.Store o at)) = With (k.Store o)
-class_of (op.Block t) = With k.Block
-class_of (op.Loop t) = With k.Loop
-class_of (op.If t) = With k.If
-class_of (op.BrTable n) = With k.BrTable
+class_of (op.Simple (s.Load o at)) = With (k.Access (accesses.Load o))
+class_of (op.Simple (s.Store o at)) = With (k.Access (accesses.Store o))
+class_of (op.Block t) = With (k.Block opening.Block)
+class_of (op.Loop t) = With (k.Block opening.Loop)
+class_of (op.If t) = With (k.Block opening.If)
+class_of (op.BrTable n) = With (k.Index indexed.BrTable)
 class_of o = Plain o
 
 -- The code of an instruction, an else or an end. A label has none.

@@ -1,8 +1,8 @@
 -- The instructions and the types of each profile. Each of them belongs to a feature, and a profile is a set of
 -- features. `one` is WebAssembly 1.0 without floats, and `two` also has the five sign-extension instructions.
 -- `three` is all of WebAssembly 1.0, and `four` also has the five sign-extension instructions. No instruction
--- belongs to `LongIndex`, which adds encodings of `call_indirect`. `Saturation` and `Copies` add instructions of
--- WebAssembly 2.0.
+-- belongs to `LongIndex`, which adds encodings of `call_indirect`. `Saturation`, `Copies` and `BulkMemory` add
+-- instructions of WebAssembly 2.0, and `BulkMemory` also adds its data count section and passive segments.
 use Rattle.std.specs.Prelude.{◌≡◌, ◌≢◌, Bool, true, false, ◌||◌, IsTrue, Option, Some, None}
 use Rattle.std.specs.List.{AllByRecursion}
 use Rattle.wm_syntax.specs.declared.types.Const.{Const}
@@ -10,7 +10,8 @@ use Rattle.wm_syntax.specs.declared.types.ValType.{ValType}
 use Rattle.wm_syntax.specs.declared.types.ValType.TheVariants.{I32, I64, F32, F64}
 use Rattle.wm_syntax.specs.declared.instructions.Simple.{Simple}
 use Rattle.wm_syntax.specs.declared.instructions.Simple.TheVariants.{F32Const, F64Const, Load, Store, Numeric}
-use Rattle.wm_syntax.specs.declared.instructions.Simple.TheVariants.{MemoryCopy, MemoryFill}
+use Rattle.wm_syntax.specs.declared.instructions.Simple.TheVariants.{MemoryCopy, MemoryFill, MemoryInit, DataDrop}
+use Rattle.wm_syntax.specs.declared.instructions.Simple.TheVariants.{TableInit, ElemDrop, TableCopy}
 use Rattle.wm_syntax.specs.declared.instructions.Numeric.TheVariants.{FloatCompare, FloatUnary, FloatBinary}
 use Rattle.wm_syntax.specs.declared.instructions.Numeric.TheVariants.{Convert, SignExtend, Saturate}
 use Rattle.wm_syntax.specs.declared.instructions.LoadOp.TheVariants.{F32Load, F64Load}
@@ -19,9 +20,11 @@ use Rattle.wm_syntax.specs.declared.instructions.Op.{Op}
 use Rattle.wm_syntax.specs.declared.instructions.Op.TheVariants as op
 use Rattle.wm_syntax.specs.declared.modules.ImportDesc.{ImportDesc}
 use Rattle.wm_syntax.specs.declared.modules.ImportDesc.TheVariants.{Global}
+use Rattle.wm_syntax.specs.declared.modules.SegmentMode.{SegmentMode}
+use Rattle.wm_syntax.specs.declared.modules.SegmentMode.TheVariants.{Passive, Active}
 use Rattle.wm_syntax.specs.declared.profile.Feature.{Feature}
 use Rattle.wm_syntax.specs.declared.profile.Feature.TheVariants.{Base, Floats, SignExtension, LongIndex}
-use Rattle.wm_syntax.specs.declared.profile.Feature.TheVariants.{Saturation, Copies}
+use Rattle.wm_syntax.specs.declared.profile.Feature.TheVariants.{Saturation, Copies, BulkMemory}
 use Rattle.wm_syntax.specs.declared.profile.Profile.{Profile}
 use Rattle.wm_syntax.specs.Types.{Signature}
 use Rattle.wm_syntax.specs.Instructions.{Instruction, Instructions, none, snoc, simple, table, block, loop}
@@ -36,10 +39,11 @@ has p SignExtension = p.sign_extension
 has p LongIndex = p.long_index
 has p Saturation = p.saturation
 has p Copies = p.copies
+has p BulkMemory = p.bulk_memory
 
 -- Whether a profile has a feature whose instructions begin with the byte FC.
 abbrev pub has_prefix : Profile → Bool
-has_prefix p = has p Saturation || has p Copies
+has_prefix p = has p Saturation || (has p Copies || has p BulkMemory)
 
 -- The profile `p` is `base` with this feature added.
 pub record AddsFeature (base : Profile) (feature : Feature) (p : Profile) : Type 0 where
@@ -48,20 +52,55 @@ pub record AddsFeature (base : Profile) (feature : Feature) (p : Profile) : Type
 
 -- The profiles that have a number.
 abbrev pub one : Profile
-one = record { floats = false; sign_extension = false; long_index = false; saturation = false; copies = false }
+one = record {
+  floats = false;
+  sign_extension = false;
+  long_index = false;
+  saturation = false;
+  copies = false;
+  bulk_memory = false;
+}
 
 abbrev pub two : Profile
-two = record { floats = false; sign_extension = true; long_index = false; saturation = false; copies = false }
+two = record {
+  floats = false;
+  sign_extension = true;
+  long_index = false;
+  saturation = false;
+  copies = false;
+  bulk_memory = false;
+}
 
 abbrev pub three : Profile
-three = record { floats = true; sign_extension = false; long_index = false; saturation = false; copies = false }
+three = record {
+  floats = true;
+  sign_extension = false;
+  long_index = false;
+  saturation = false;
+  copies = false;
+  bulk_memory = false;
+}
 
 abbrev pub four : Profile
-four = record { floats = true; sign_extension = true; long_index = false; saturation = false; copies = false }
+four = record {
+  floats = true;
+  sign_extension = true;
+  long_index = false;
+  saturation = false;
+  copies = false;
+  bulk_memory = false;
+}
 
 -- The profile that has every feature.
 abbrev pub every : Profile
-every = record { floats = true; sign_extension = true; long_index = true; saturation = true; copies = true }
+every = record {
+  floats = true;
+  sign_extension = true;
+  long_index = true;
+  saturation = true;
+  copies = true;
+  bulk_memory = true;
+}
 
 -- The profile q has every feature of p.
 abbrev pub Extends : Profile → Profile → Type 0
@@ -83,6 +122,11 @@ feature_of (Numeric (SignExtend op)) = SignExtension
 feature_of (Numeric (Saturate op)) = Saturation
 feature_of MemoryCopy = Copies
 feature_of MemoryFill = Copies
+feature_of (MemoryInit x) = BulkMemory
+feature_of (DataDrop x) = BulkMemory
+feature_of (TableInit x) = BulkMemory
+feature_of (ElemDrop x) = BulkMemory
+feature_of TableCopy = BulkMemory
 feature_of _ = Base
 
 -- The feature of a value type.
@@ -149,11 +193,18 @@ HasFunction p f = AllByRecursion (HasType p) f.locals × HasInstructions p f.bod
 abbrev pub HasGlobal : Profile → GlobalDef → Type 0
 HasGlobal p g = HasType p g.ty.ty × HasConst p g.init
 
--- A module belongs to a profile if each value type, each constant expression and each instruction in it does.
+-- The mode of an active segment belongs to a profile if its offset does, and that of a passive one if the profile has
+-- the feature.
+abbrev pub HasMode : Profile → SegmentMode → Type 0
+HasMode p Passive = IsTrue (has p BulkMemory)
+HasMode p (Active x offset) = HasConst p offset
+
+-- A module belongs to a profile if each value type, each constant expression, each instruction and each mode of a
+-- segment in it does.
 pub record IsOf (p : Profile) (m : Module) : Type 0 where
   pub types : AllByRecursion (HasSignature p) m.types
   pub imports : AllByRecursion (λ i. HasDesc p i.desc) m.imports
   pub functions : AllByRecursion (HasFunction p) m.functions
   pub globals : AllByRecursion (HasGlobal p) m.globals
-  pub elements : AllByRecursion (λ e. HasConst p e.offset) m.elements
-  pub segments : AllByRecursion (λ s. HasConst p s.offset) m.segments
+  pub elements : AllByRecursion (λ e. HasMode p e.mode) m.elements
+  pub segments : AllByRecursion (λ s. HasMode p s.mode) m.segments

@@ -3,7 +3,7 @@ use Rattle.std.specs.Prelude.{ℕ, List, codes}
 use Rattle.wm_syntax.specs.declared.why.Why.{Why}
 use Rattle.wm_syntax.specs.declared.why.Why.TheVariants.{Magic, Version, SectionId, SectionOrder, SectionEnd}
 use Rattle.wm_syntax.specs.declared.why.Why.TheVariants.{BadNumber, BadUtf8, BadByte, Float, BadOpcode}
-use Rattle.wm_syntax.specs.declared.why.Why.TheVariants.{Truncated, CodeCount, BodyEnd, TooManyLocals, Index}
+use Rattle.wm_syntax.specs.declared.why.Why.TheVariants.{Truncated, CodeCount, DataCount, BodyEnd, TooManyLocals, Index}
 use Rattle.wm_syntax.specs.declared.why.Why.TheVariants.{Mismatch, Arity, Limits, Second, DuplicateExport}
 use Rattle.wm_syntax.specs.declared.why.Why.TheVariants.{StartType, NotConst, Immutable, Align, ElsePlace}
 use Rattle.wm_syntax.specs.declared.why.Why.TheVariants.{TooLong, Memory, ManyFunctions, ManyLocals, Deep}
@@ -21,6 +21,7 @@ name_of Float = codes "Float"
 name_of BadOpcode = codes "BadOpcode"
 name_of Truncated = codes "Truncated"
 name_of CodeCount = codes "CodeCount"
+name_of DataCount = codes "DataCount"
 name_of BodyEnd = codes "BodyEnd"
 name_of TooManyLocals = codes "TooManyLocals"
 name_of Index = codes "Index"

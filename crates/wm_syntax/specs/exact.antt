@@ -2,5 +2,6 @@
 -- reader need not believe them.
 pub mod ByteTable
 pub mod NameTable
+pub mod OpShapes
 pub mod Reading
 pub mod Runs

@@ -1,6 +1,7 @@
 //! Instructions (Core spec 2.4).
 
 ghost use Rattle.std.specs.Prelude.{◌≡◌};
+ghost use Rattle.wm_syntax.specs.Instructions.{names_segment};
 ghost use Rattle.wm_syntax.specs.Opcodes.{float_type, int_type};
 
 use crate::types::ValType;
@@ -263,6 +264,14 @@ pub enum Simple {
     /// `memory.copy` and `memory.fill` are of WebAssembly 2.0 (2.4.7).
     MemoryCopy,
     MemoryFill,
+    /// `memory.init` and `data.drop` of WebAssembly 2.0 (2.4.7) name a data segment.
+    MemoryInit(u32),
+    DataDrop(u32),
+    /// `table.init` and `elem.drop` of WebAssembly 2.0 (2.4.6) name an element segment. The table of `table.init` is 0.
+    TableInit(u32),
+    ElemDrop(u32),
+    /// `table.copy` of WebAssembly 2.0 (2.4.6), from the table 0 to itself.
+    TableCopy,
     I32Const(i32),
     I64Const(i64),
     /// A float is held as its bits.
@@ -286,4 +295,17 @@ pub enum Op {
     /// How many labels come before the default. Each of them, and then the default, is a `Label`.
     BrTable(u32),
     Label(u32),
+}
+
+impl Op {
+    /// Whether the op names a data segment (WebAssembly 2.0, 2.4.7).
+    #[inline(always)]
+    pub fn names_segment(&self) -> bool
+        ensures { result ≡ names_segment self.now }
+    {
+        match self {
+            Op::Simple(simple) => matches!(simple, Simple::MemoryInit(_) | Simple::DataDrop(_)),
+            _ => false,
+        }
+    }
 }

@@ -107,11 +107,18 @@ impl Model for Export {
     ghost view = { λ e. record { name = string_bytes e.name; kind = e.kind; index = e.index } };
 }
 
-/// An element segment: a table, an offset in it, and function indices (Core spec 2.5.7).
+/// The mode of a segment. An active one is copied at instantiation, to an offset in the table or the memory with this
+/// index (Core spec 2.5.7, 2.5.8). A passive one is copied by instructions only (WebAssembly 2.0, 2.5.7, 2.5.8).
+#[derive(Clone, Copy, PartialEq, Eq, Debug)]
+pub enum SegmentMode {
+    Passive,
+    Active { index: u32, offset: Const },
+}
+
+/// An element segment: its mode, and function indices (Core spec 2.5.7).
 #[derive(Debug, Drop)]
 pub struct Element {
-    pub table: u32,
-    pub offset: Const,
+    pub mode: SegmentMode,
     pub functions: Vec<u32>,
 }
 
@@ -120,14 +127,13 @@ impl Model for Element {
 
     ghost Value = { ElementValue };
 
-    ghost view = { λ e. record { table = e.table; offset = e.offset; functions = e.functions.items } };
+    ghost view = { λ e. record { mode = e.mode; functions = e.functions.items } };
 }
 
-/// A data segment: a memory, an offset in it, and bytes (Core spec 2.5.8).
+/// A data segment: its mode, and bytes (Core spec 2.5.8).
 #[derive(Debug, Drop)]
 pub struct Segment {
-    pub memory: u32,
-    pub offset: Const,
+    pub mode: SegmentMode,
     pub bytes: Vec<u8>,
 }
 
@@ -136,7 +142,7 @@ impl Model for Segment {
 
     ghost Value = { SegmentValue };
 
-    ghost view = { λ s. record { memory = s.memory; offset = s.offset; bytes = s.bytes.items } };
+    ghost view = { λ s. record { mode = s.mode; bytes = s.bytes.items } };
 }
 
 /// A module, valid or not (Core spec 2.5). Tables and memories are lists, to represent an invalid module with

@@ -262,6 +262,13 @@ impl Num32 {
         self.bytes.is_new()
     }
 
+    /// Returns the least number that begins with the bytes so far.
+    pub fn least(&self) -> u64
+        ensures { result ≡ self.now.low }
+    {
+        self.bytes.low
+    }
+
     /// Takes the next byte. After `Done` and `Bad` the answer is always `Bad`.
     pub fn push(&mut self, byte: u8) -> Step<u32>
         ensures answers { (before : List ℕ) → UnsignedAfter 32 self.old before

@@ -12,6 +12,7 @@ pub struct Profile {
     long_index: bool,
     saturation: bool,
     copies: bool,
+    bulk_memory: bool,
 }
 
 /// The feature that an instruction, a type or an encoding belongs to.
@@ -29,6 +30,9 @@ pub enum Feature {
     Saturation,
     /// `memory.copy` and `memory.fill` (WebAssembly 2.0, 2.4.7).
     Copies,
+    /// `memory.init`, `data.drop`, `table.init`, `elem.drop`, `table.copy`, the data count section, and passive segments
+    /// (WebAssembly 2.0, 2.4.6, 2.4.7, 2.5.7, 2.5.8, 5.5.12, 5.5.14 and 5.5.15).
+    BulkMemory,
 }
 
 impl Profile {
@@ -39,33 +43,25 @@ impl Profile {
         long_index: false,
         saturation: false,
         copies: false,
+        bulk_memory: false,
     };
 
     /// WebAssembly 1.0 without floats, and the five sign-extension instructions that came later.
     pub const TWO: Profile = Profile {
-        floats: false,
         sign_extension: true,
-        long_index: false,
-        saturation: false,
-        copies: false,
+        ..Profile::ONE
     };
 
     /// All of WebAssembly 1.0.
     pub const THREE: Profile = Profile {
         floats: true,
-        sign_extension: false,
-        long_index: false,
-        saturation: false,
-        copies: false,
+        ..Profile::ONE
     };
 
     /// All of WebAssembly 1.0, and the five sign-extension instructions.
     pub const FOUR: Profile = Profile {
         floats: true,
-        sign_extension: true,
-        long_index: false,
-        saturation: false,
-        copies: false,
+        ..Profile::TWO
     };
 
     /// Returns the profile that also has the feature.
@@ -96,6 +92,10 @@ impl Profile {
                 copies: true,
                 ..self
             },
+            Feature::BulkMemory => Profile {
+                bulk_memory: true,
+                ..self
+            },
         }
     }
 
@@ -111,6 +111,7 @@ impl Profile {
             Feature::LongIndex => self.long_index,
             Feature::Saturation => self.saturation,
             Feature::Copies => self.copies,
+            Feature::BulkMemory => self.bulk_memory,
         }
     }
 
@@ -119,6 +120,6 @@ impl Profile {
     pub fn has_prefix(self) -> bool
         ensures { result ≡ has_prefix self }
     {
-        self.saturation || self.copies
+        self.saturation || self.copies || self.bulk_memory
     }
 }

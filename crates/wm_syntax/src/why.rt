@@ -15,9 +15,9 @@ pub enum Why {
     Magic,
     /// One of the next four bytes differs from the version.
     Version,
-    /// A section's id is above 11.
+    /// No section of the profile has this id.
     SectionId,
-    /// A section that is not custom has an id that is not above the last such id.
+    /// A section that is not custom comes twice, or after a section that must follow it.
     SectionOrder,
     /// A section's size and its contents do not agree.
     SectionEnd,
@@ -35,6 +35,8 @@ pub enum Why {
     Truncated,
     /// The number of code entries differs from the number of declared functions.
     CodeCount,
+    /// The data count section gives another number than that of the data segments.
+    DataCount,
     /// A code entry's size and its contents do not agree.
     BodyEnd,
     /// A function declares 2^32 locals or more.
@@ -93,6 +95,7 @@ impl Why {
             Why::BadOpcode => "BadOpcode",
             Why::Truncated => "Truncated",
             Why::CodeCount => "CodeCount",
+            Why::DataCount => "DataCount",
             Why::BodyEnd => "BodyEnd",
             Why::TooManyLocals => "TooManyLocals",
             Why::Index => "Index",
@@ -131,6 +134,7 @@ impl Why {
             Why::BadOpcode => "no instruction of the profile begins with this byte",
             Why::Truncated => "the input ends inside the header or a section",
             Why::CodeCount => "there are not as many function bodies as declared functions",
+            Why::DataCount => "the data count section does not give the number of data segments",
             Why::BodyEnd => "a function body does not fill its size exactly",
             Why::TooManyLocals => "a function declares 2^32 locals or more",
             Why::Index => "an index names nothing",

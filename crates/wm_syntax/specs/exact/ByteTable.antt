@@ -5,12 +5,15 @@ use Rattle.std.specs.Prelude.{if◌then◌else◌}
 use Rattle.wm_syntax.specs.declared.instructions.LoadOp.TheVariants.{F32Load, F64Load}
 use Rattle.wm_syntax.specs.declared.instructions.StoreOp.TheVariants.{F32Store, F64Store}
 use Rattle.wm_syntax.specs.declared.instructions.Op.TheVariants as op
+use Rattle.wm_syntax.specs.declared.instructions.op_class.Indexed.TheVariants as indexed
+use Rattle.wm_syntax.specs.declared.instructions.op_class.MemoryOp.TheVariants as memory
+use Rattle.wm_syntax.specs.declared.instructions.op_class.LoadOrStore.TheVariants as accesses
 use Rattle.wm_syntax.specs.declared.instructions.op_class.Immediates.TheVariants as k
 use Rattle.wm_syntax.specs.declared.instructions.op_class.OpClass.{OpClass}
 use Rattle.wm_syntax.specs.declared.instructions.op_class.OpClass.TheVariants.{Plain, With, Float, None}
-use Rattle.wm_syntax.specs.declared.instructions.opcodes.TheConstants.{CLASSES}
+use Rattle.wm_syntax.specs.declared.instructions.opcodes.TheConstants.{CLASSES, FEATURES}
 use Rattle.wm_syntax.specs.declared.profile.Feature.{Feature}
-use Rattle.wm_syntax.specs.declared.profile.Feature.TheVariants.{Base, Floats, Copies}
+use Rattle.wm_syntax.specs.declared.profile.Feature.TheVariants.{Base, Floats, Copies, BulkMemory}
 use Rattle.wm_syntax.specs.declared.profile.Profile.{Profile}
 use Rattle.wm_syntax.specs.Profiles.{feature_of, has}
 
@@ -18,17 +21,26 @@ use Rattle.wm_syntax.specs.Profiles.{feature_of, has}
 abbrev pub classes : List OpClass
 classes = CLASSES
 
+-- The feature of the ops with each code: the code's own table.
+abbrev pub features : List Feature
+features = FEATURES
+
 -- The feature of the ops of a class.
 abbrev pub class_feature : OpClass → Feature
 class_feature (Plain (op.Simple i)) = feature_of i
 class_feature (With k.F32Const) = Floats
 class_feature (With k.F64Const) = Floats
-class_feature (With k.MemoryCopy) = Copies
-class_feature (With k.MemoryFill) = Copies
-class_feature (With (k.Load F32Load)) = Floats
-class_feature (With (k.Load F64Load)) = Floats
-class_feature (With (k.Store F32Store)) = Floats
-class_feature (With (k.Store F64Store)) = Floats
+class_feature (With (k.Memory memory.MemoryCopy)) = Copies
+class_feature (With (k.Memory memory.MemoryFill)) = Copies
+class_feature (With k.MemoryInit) = BulkMemory
+class_feature (With (k.Index indexed.DataDrop)) = BulkMemory
+class_feature (With k.TableInit) = BulkMemory
+class_feature (With (k.Index indexed.ElemDrop)) = BulkMemory
+class_feature (With k.TableCopy) = BulkMemory
+class_feature (With (k.Access (accesses.Load F32Load))) = Floats
+class_feature (With (k.Access (accesses.Load F64Load))) = Floats
+class_feature (With (k.Access (accesses.Store F32Store))) = Floats
+class_feature (With (k.Access (accesses.Store F64Store))) = Floats
 class_feature _ = Base
 
 -- The answer for the ops of a feature that the profile does not have.

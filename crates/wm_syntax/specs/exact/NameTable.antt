@@ -4,6 +4,10 @@ use Rattle.std.specs.Prelude.{ℕ, Bool, false, List, [], ◌∷◌, Option, Som
 use Rattle.std.specs.Prelude.{if◌then◌else◌}
 use Rattle.std.specs.Str.{bytes_eq}
 use Rattle.wm_syntax.specs.declared.instructions.op_class.Immediates.{Immediates}
+use Rattle.wm_syntax.specs.declared.instructions.op_class.BlockOp.TheVariants as opening
+use Rattle.wm_syntax.specs.declared.instructions.op_class.Indexed.TheVariants as indexed
+use Rattle.wm_syntax.specs.declared.instructions.op_class.MemoryOp.TheVariants as memory
+use Rattle.wm_syntax.specs.declared.instructions.op_class.LoadOrStore.TheVariants as accesses
 use Rattle.wm_syntax.specs.declared.instructions.op_class.Immediates.TheVariants as k
 use Rattle.wm_syntax.specs.declared.instructions.op_class.OpClass.{OpClass}
 use Rattle.wm_syntax.specs.declared.instructions.op_class.OpClass.TheVariants.{Plain, With, Float, None}
@@ -15,29 +19,34 @@ use Rattle.wm_syntax.specs.exact.ByteTable.{classes, class_in}
 
 -- The name of the instructions that have these immediates.
 abbrev pub immediates_name : Immediates → List ℕ
-immediates_name k.Block = codes "block"
-immediates_name k.Loop = codes "loop"
-immediates_name k.If = codes "if"
-immediates_name k.Br = codes "br"
-immediates_name k.BrIf = codes "br_if"
-immediates_name k.BrTable = codes "br_table"
-immediates_name k.Call = codes "call"
+immediates_name (k.Block opening.Block) = codes "block"
+immediates_name (k.Block opening.Loop) = codes "loop"
+immediates_name (k.Block opening.If) = codes "if"
+immediates_name (k.Index indexed.Br) = codes "br"
+immediates_name (k.Index indexed.BrIf) = codes "br_if"
+immediates_name (k.Index indexed.BrTable) = codes "br_table"
+immediates_name (k.Index indexed.Call) = codes "call"
 immediates_name k.CallIndirect = codes "call_indirect"
-immediates_name k.LocalGet = codes "local.get"
-immediates_name k.LocalSet = codes "local.set"
-immediates_name k.LocalTee = codes "local.tee"
-immediates_name k.GlobalGet = codes "global.get"
-immediates_name k.GlobalSet = codes "global.set"
-immediates_name k.MemorySize = codes "memory.size"
-immediates_name k.MemoryGrow = codes "memory.grow"
-immediates_name k.MemoryCopy = codes "memory.copy"
-immediates_name k.MemoryFill = codes "memory.fill"
+immediates_name (k.Index indexed.LocalGet) = codes "local.get"
+immediates_name (k.Index indexed.LocalSet) = codes "local.set"
+immediates_name (k.Index indexed.LocalTee) = codes "local.tee"
+immediates_name (k.Index indexed.GlobalGet) = codes "global.get"
+immediates_name (k.Index indexed.GlobalSet) = codes "global.set"
+immediates_name (k.Memory memory.MemorySize) = codes "memory.size"
+immediates_name (k.Memory memory.MemoryGrow) = codes "memory.grow"
+immediates_name (k.Memory memory.MemoryCopy) = codes "memory.copy"
+immediates_name (k.Memory memory.MemoryFill) = codes "memory.fill"
+immediates_name k.MemoryInit = codes "memory.init"
+immediates_name (k.Index indexed.DataDrop) = codes "data.drop"
+immediates_name k.TableInit = codes "table.init"
+immediates_name (k.Index indexed.ElemDrop) = codes "elem.drop"
+immediates_name k.TableCopy = codes "table.copy"
 immediates_name k.I32Const = codes "i32.const"
 immediates_name k.I64Const = codes "i64.const"
 immediates_name k.F32Const = codes "f32.const"
 immediates_name k.F64Const = codes "f64.const"
-immediates_name (k.Load o) = (load o).name
-immediates_name (k.Store o) = (store o).name
+immediates_name (k.Access (accesses.Load o)) = (load o).name
+immediates_name (k.Access (accesses.Store o)) = (store o).name
 
 abbrev pub class_name : OpClass → Option (List ℕ)
 class_name (Plain o) = op_name o

@@ -11,12 +11,14 @@ use Rattle.wm_syntax.specs.Modules.{Import, Function, GlobalDef, Export, Element
 use Rattle.wm_syntax.specs.Types.{Signature}
 use Rattle.wm_syntax.specs.contracts.modules.ExportKind as kind
 use Rattle.wm_syntax.specs.contracts.modules.ImportDesc as desc
+use Rattle.wm_syntax.specs.contracts.modules.SegmentMode as mode
 use Rattle.wm_syntax.specs.contracts.types.Const as constant
 use Rattle.wm_syntax.specs.contracts.types.GlobalType as global
 use Rattle.wm_syntax.specs.contracts.types.Limits as limits
 use Rattle.wm_syntax.specs.contracts.types.ValType as types
 use Rattle.wm_syntax.specs.declared.modules.ExportKind.{ExportKind}
 use Rattle.wm_syntax.specs.declared.modules.ImportDesc.{ImportDesc}
+use Rattle.wm_syntax.specs.declared.modules.SegmentMode.{SegmentMode}
 use Rattle.wm_syntax.specs.declared.types.Const.{Const}
 use Rattle.wm_syntax.specs.declared.types.GlobalType.{GlobalType}
 use Rattle.wm_syntax.specs.declared.types.Limits.{Limits}
@@ -105,15 +107,13 @@ export_code =
 
 pub element_code : Coded Element
 element_code =
-    code_by (ℕ × (Const × List ℕ)) (coded× coded_ℕ (coded× constant.the_row.coded (coded_list coded_ℕ)))
-    (λ e. (e.table, (e.offset, e.functions)))
-    (λ p. record { table = p.0; offset = p.1.0; functions = p.1.1 }) (λ _. refl)
+    code_by (SegmentMode × List ℕ) (coded× mode.the_row.coded (coded_list coded_ℕ)) (λ e. (e.mode, e.functions))
+    (λ p. record { mode = p.0; functions = p.1 }) (λ _. refl)
 
 pub segment_code : Coded Segment
 segment_code =
-    code_by (ℕ × (Const × List ℕ)) (coded× coded_ℕ (coded× constant.the_row.coded (coded_list coded_ℕ)))
-    (λ s. (s.memory, (s.offset, s.bytes)))
-    (λ p. record { memory = p.0; offset = p.1.0; bytes = p.1.1 }) (λ _. refl)
+    code_by (SegmentMode × List ℕ) (coded× mode.the_row.coded (coded_list coded_ℕ)) (λ s. (s.mode, s.bytes))
+    (λ p. record { mode = p.0; bytes = p.1 }) (λ _. refl)
 
 module_parts : Module → List Signature × (List Import
     × (List Function × (List Limits × (List Limits

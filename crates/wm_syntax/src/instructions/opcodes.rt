@@ -3,11 +3,11 @@
 
 ghost use Rattle.std.specs.Prelude.{◌≡◌, ◌+◌, ◌<◌, ◌≤◌, ◌↔◌, IsTrue, IsFalse, slice_get};
 ghost use Rattle.wm_syntax.specs.declared.instructions.Op.{Op};
-ghost use Rattle.wm_syntax.specs.exact.ByteTable.{class_feature, class_in, class_under, classes, left_out};
+ghost use Rattle.wm_syntax.specs.exact.ByteTable.{class_feature, class_in, class_under, classes, features, left_out};
 ghost use Rattle.wm_syntax.specs.Opcodes.{numeric, opcode};
 ghost use Rattle.wm_syntax.specs.Lengths.{code_len};
 ghost use Rattle.wm_syntax.specs.OpClasses.{IsClassOfOp, class_of, code, is_float};
-ghost use Rattle.wm_syntax.specs.Profiles.{IsOpOf, feature_of, has};
+ghost use Rattle.wm_syntax.specs.Profiles.{IsOpOf, has};
 ghost use Rattle.wm_syntax.specs.declared.profile.Feature.TheVariants.{Floats};
 
 use crate::instructions::FloatType::{F32, F64};
@@ -17,8 +17,9 @@ use crate::instructions::Numeric::{
     SignExtend, Test, Unary, Wrap,
 };
 use crate::instructions::Simple::Numeric;
+use crate::instructions::op_class::LoadOrStore::{Load, Store};
 use crate::instructions::op_class::OpClass::{Plain, With};
-use crate::instructions::op_class::{Immediates, OpClass};
+use crate::instructions::op_class::{BlockOp, Immediates, Indexed, MemoryOp, OpClass};
 use crate::instructions::{
     BinaryOp, Comparison, Conversion, FloatBinaryOp, FloatComparison, FloatUnaryOp, LoadOp,
     Numeric as NumericOp, Op, Saturation, SignExtension, Simple, StoreOp, UnaryOp,
@@ -40,7 +41,7 @@ pub fn op_of(profile: Profile, byte: u8) -> OpClass
     ensures floats { IsTrue (has profile Floats) → result ≡ OpClass.Float → ⊥ }
     ensures exact { result ≡ class_under profile byte }
 {
-    within(profile, class_at(byte))
+    within(profile, class_at(byte), feature_at(byte))
 }
 
 /// Returns the class of the instruction whose bytes begin with FC and this number (WebAssembly 2.0, 5.4). Returns
@@ -62,17 +63,20 @@ pub(crate) fn op_with(profile: Profile, wanted: usize) -> OpClass
     if wanted >= CLASSES.len() {
         return OpClass::None;
     }
-    within(profile, CLASSES[wanted])
+    within(profile, CLASSES[wanted], FEATURES[wanted])
 }
 
-fn within(profile: Profile, class: OpClass) -> OpClass
+// Returns the class of a row under the profile. Most rows are of every profile, and then no feature is asked for.
+#[inline(always)]
+fn within(profile: Profile, class: OpClass, feature: Feature) -> OpClass
+    requires { feature ≡ class_feature class }
     ensures { result ≡ class_in profile class }
 {
-    let feature = feature_of_class(class);
-    if !profile.has(feature) {
-        return without(feature);
+    if matches!(feature, Feature::Base) || profile.has(feature) {
+        class
+    } else {
+        without(feature)
     }
-    class
 }
 
 // The answer for the ops of a feature that the profile does not have.
@@ -82,44 +86,6 @@ fn without(feature: Feature) -> OpClass
     match feature {
         Feature::Floats => OpClass::Float,
         _ => OpClass::None,
-    }
-}
-
-// The feature of the ops of a class.
-fn feature_of_class(class: OpClass) -> Feature
-    ensures { result ≡ class_feature class }
-{
-    match class {
-        Plain(Op::Simple(simple)) => feature_of_simple(simple),
-        With(kind) => match kind {
-            Immediates::F32Const | Immediates::F64Const => Feature::Floats,
-            Immediates::Load(LoadOp::F32Load | LoadOp::F64Load) => Feature::Floats,
-            Immediates::Store(StoreOp::F32Store | StoreOp::F64Store) => Feature::Floats,
-            Immediates::MemoryCopy | Immediates::MemoryFill => Feature::Copies,
-            _ => Feature::Base,
-        },
-        _ => Feature::Base,
-    }
-}
-
-// The feature of an instruction.
-fn feature_of_simple(simple: Simple) -> Feature
-    ensures { result ≡ feature_of simple }
-{
-    match simple {
-        Simple::F32Const(_) | Simple::F64Const(_) => Feature::Floats,
-        Simple::Load(LoadOp::F32Load | LoadOp::F64Load, _) => Feature::Floats,
-        Simple::Store(StoreOp::F32Store | StoreOp::F64Store, _) => Feature::Floats,
-        Numeric(op) => match op {
-            FloatCompare(_, _) | FloatUnary(_, _) | FloatBinary(_, _) | Convert(_) => {
-                Feature::Floats
-            }
-            SignExtend(_) => Feature::SignExtension,
-            Saturate(_) => Feature::Saturation,
-            _ => Feature::Base,
-        },
-        Simple::MemoryCopy | Simple::MemoryFill => Feature::Copies,
-        _ => Feature::Base,
     }
 }
 
@@ -135,12 +101,24 @@ macro_rules! class {
         Plain(Op::Simple(Simple::$op))
     };
     ([load] $op:ident $($access:tt)*) => {
-        With(Immediates::Load(LoadOp::$op))
+        With(Immediates::Access(Load(LoadOp::$op)))
     };
     ([store] $op:ident $($access:tt)*) => {
-        With(Immediates::Store(StoreOp::$op))
+        With(Immediates::Access(Store(StoreOp::$op)))
     };
-    ([$with_immediates:ident] $op:ident $immediates:ident) => {
+    ([structured] $op:ident block_type) => {
+        With(Immediates::Block(BlockOp::$op))
+    };
+    ([$group:ident] $op:ident index) => {
+        With(Immediates::Index(Indexed::$op))
+    };
+    ([plain] $op:ident zeros) => {
+        With(Immediates::Memory(MemoryOp::$op))
+    };
+    ([plain] $op:ident tables) => {
+        With(Immediates::$op)
+    };
+    ([number] $op:ident $immediates:ident) => {
         With(Immediates::$op)
     };
     ($group:tt $op:ident $($types:tt)*) => {
@@ -192,7 +170,87 @@ macro_rules! class_table {
 }
 
 // The class of each code under a profile that has all features.
-static CLASSES: [OpClass; 268] = opcode_table!(all, class_table);
+static CLASSES: [OpClass; 271] = opcode_table!(all, class_table);
+
+// The feature of a row, by its group.
+macro_rules! feature {
+    ([plain] MemoryCopy $zeros:ident) => {
+        Feature::Copies
+    };
+    ([plain] MemoryFill $zeros:ident) => {
+        Feature::Copies
+    };
+    ([number] MemoryInit $index:ident) => {
+        Feature::BulkMemory
+    };
+    ([number] DataDrop $index:ident) => {
+        Feature::BulkMemory
+    };
+    ([number] TableInit $index:ident) => {
+        Feature::BulkMemory
+    };
+    ([number] ElemDrop $index:ident) => {
+        Feature::BulkMemory
+    };
+    ([plain] TableCopy $tables:ident) => {
+        Feature::BulkMemory
+    };
+    ([number] F32Const $bits:ident) => {
+        Feature::Floats
+    };
+    ([number] F64Const $bits:ident) => {
+        Feature::Floats
+    };
+    ([load] F32Load $($access:tt)*) => {
+        Feature::Floats
+    };
+    ([load] F64Load $($access:tt)*) => {
+        Feature::Floats
+    };
+    ([store] F32Store $($access:tt)*) => {
+        Feature::Floats
+    };
+    ([store] F64Store $($access:tt)*) => {
+        Feature::Floats
+    };
+    ([float_compare $ty:ident] $op:ident) => {
+        Feature::Floats
+    };
+    ([float_unary $ty:ident] $op:ident) => {
+        Feature::Floats
+    };
+    ([float_binary $ty:ident] $op:ident) => {
+        Feature::Floats
+    };
+    ([convert] $($of:tt)*) => {
+        Feature::Floats
+    };
+    ([sign_extend] $($of:tt)*) => {
+        Feature::SignExtension
+    };
+    ([saturate] $($of:tt)*) => {
+        Feature::Saturation
+    };
+    ($group:tt $($of:tt)*) => {
+        Feature::Base
+    };
+}
+
+macro_rules! feature_table {
+    ([] $($group:tt { $($code:literal $(=> $name:literal, $op:ident $(($($of:tt)*))?)?;)* })*) => {
+        [$($(feature!($group $($op $($($of)*)?)?),)*)*]
+    };
+}
+
+// The feature of the ops with each code.
+static FEATURES: [Feature; 271] = opcode_table!(all, feature_table);
+
+// The feature of the ops with this code.
+fn feature_at(byte: u8) -> Feature
+    ensures { slice_get features byte ≡ Some result }
+{
+    FEATURES[byte as usize]
+}
 
 // The class of the byte under a profile that has all features.
 fn class_at(byte: u8) -> OpClass
@@ -201,11 +259,15 @@ fn class_at(byte: u8) -> OpClass
     CLASSES[byte as usize]
 }
 
-// The code of an op of a group whose ops are the variants of one enum.
+// The code of an op of a group whose ops are variants of one enum, before the arms for its other variants.
 macro_rules! code_of {
-    ([$ops:ident $op:ident] $({ $($code:literal => $name:literal, $variant:ident $(($($of:tt)*))?;)* })*) => {
+    (
+        [$ops:ident $op:ident $(($($others:tt)*))?]
+        $({ $($code:literal => $name:literal, $variant:ident $(($($of:tt)*))?;)* })*
+    ) => {
         match $op {
             $($($ops::$variant => $code,)*)*
+            $($($others)*)?
         }
     };
 }
@@ -233,16 +295,6 @@ macro_rules! code_of_type {
     };
 }
 
-// The code of a numeric instruction without a type or an operator.
-macro_rules! code_of_alone {
-    ([$numeric:ident] $({ $($code:literal => $name:literal, $op:ident($($types:tt)*);)* })*) => {
-        match $numeric {
-            $($(NumericOp::$op => $code,)*)*
-            _ => unreachable!(),
-        }
-    };
-}
-
 fn numeric_code(op: NumericOp) -> u16
     ensures { result ≡ (numeric op).code }
 {
@@ -259,21 +311,8 @@ fn numeric_code(op: NumericOp) -> u16
         Convert(op) => opcode_table!(convert, code_of, Conversion, op),
         SignExtend(op) => opcode_table!(sign_extend, code_of, SignExtension, op),
         Saturate(op) => opcode_table!(saturate, code_of, Saturation, op),
-        _ => opcode_table!(integer, code_of_alone, op),
+        _ => opcode_table!(integer, code_of, NumericOp, op, (_ => unreachable!(),)),
     }
-}
-
-// The code of an instruction, by its group.
-macro_rules! code_of_plain {
-    ([$simple:ident] $({ $($code:literal => $name:literal, $op:ident $(($immediates:ident))?;)* })*) => {
-        match $simple {
-            $($(Simple::$op => $code,)*)*
-            Simple::Load(op, _) => opcode_table!(load, code_of, LoadOp, op),
-            Simple::Store(op, _) => opcode_table!(store, code_of, StoreOp, op),
-            Numeric(op) => numeric_code(op),
-            _ => opcode_table!(number, code_of_number, $simple),
-        }
-    };
 }
 
 // The code of an instruction with a number.
@@ -286,10 +325,10 @@ macro_rules! code_of_number {
     };
 }
 
-/// Returns the code of an instruction (Core spec 5.4). It is below 0x100 if it is one byte, and below 0x10C if two.
+/// Returns the code of an instruction (Core spec 5.4). It is below 0x100 if it is one byte, and below 0x10F if two.
 pub fn code(simple: Simple) -> u16
     ensures value { result ≡ (opcode simple).0 }
-    ensures range { result < 0x10C }
+    ensures range { result < 0x10F }
     ensures byte { code_len simple ≡ 1 → result < 0x100 }
     ensures prefixed { code_len simple ≡ 2 → 0x100 ≤ result }
 {
@@ -299,5 +338,16 @@ pub fn code(simple: Simple) -> u16
 fn simple_code(simple: Simple) -> u16
     ensures { result ≡ (opcode simple).0 }
 {
-    opcode_table!(plain, code_of_plain, simple)
+    opcode_table!(
+        plain,
+        code_of,
+        Simple,
+        simple,
+        (
+            Simple::Load(op, _) => opcode_table!(load, code_of, LoadOp, op),
+            Simple::Store(op, _) => opcode_table!(store, code_of, StoreOp, op),
+            Numeric(op) => numeric_code(op),
+            _ => opcode_table!(number, code_of_number, simple),
+        )
+    )
 }

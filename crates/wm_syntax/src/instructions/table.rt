@@ -9,7 +9,7 @@
 //! |---|---|
 //! | `CODE;` | a code that no op has |
 //! | `CODE => NAME, OP;` | an op without immediates |
-//! | `CODE => NAME, OP(IMMEDIATES);` | an op with immediates; its class is the kind of them |
+//! | `CODE => NAME, OP(SHAPE);` | an op with immediates of this shape, which gives its class (`op_class.rt`) |
 //! | `CODE => NAME, OP(WIDTH, TYPE);` | a load or a store: its width in bytes, and the type of its value |
 //! | `CODE => NAME, OP(OPERAND -> RESULT);` | a conversion |
 
@@ -37,7 +37,7 @@ macro_rules! opcode_table {
                 0x0C => b"br", Br(index);
                 0x0D => b"br_if", BrIf(index);
             }
-            structured { 0x0E => b"br_table", BrTable(labels); }
+            structured { 0x0E => b"br_table", BrTable(index); }
             plain { 0x0F => b"return", Return; }
             number {
                 0x10 => b"call", Call(index);
@@ -85,8 +85,8 @@ macro_rules! opcode_table {
                 0x3E => b"i64.store32", I64Store32(4, I64);
             }
             plain {
-                0x3F => b"memory.size", MemorySize(zero);
-                0x40 => b"memory.grow", MemoryGrow(zero);
+                0x3F => b"memory.size", MemorySize(zeros);
+                0x40 => b"memory.grow", MemoryGrow(zeros);
             }
             number {
                 0x41 => b"i32.const", I32Const(s32);
@@ -271,11 +271,19 @@ macro_rules! opcode_table {
                 0x106 => b"i64.trunc_sat_f64_s", I64TruncSatF64S(F64 -> I64);
                 0x107 => b"i64.trunc_sat_f64_u", I64TruncSatF64U(F64 -> I64);
             }
-            reserved { 0x108; 0x109; }
+            number {
+                0x108 => b"memory.init", MemoryInit(index_zero);
+                0x109 => b"data.drop", DataDrop(index);
+            }
             plain {
                 0x10A => b"memory.copy", MemoryCopy(zeros);
-                0x10B => b"memory.fill", MemoryFill(zero);
+                0x10B => b"memory.fill", MemoryFill(zeros);
             }
+            number {
+                0x10C => b"table.init", TableInit(index_table);
+                0x10D => b"elem.drop", ElemDrop(index);
+            }
+            plain { 0x10E => b"table.copy", TableCopy(tables); }
         }
     };
 }

@@ -1,7 +1,7 @@
 //! Function bodies, held as their ops.
 
 ghost use Rattle.std.specs.Prelude.{◌≡◌, ◌-◌, ◌^◌, min};
-ghost use Rattle.wm_syntax.specs.Instructions.{ops_of};
+ghost use Rattle.wm_syntax.specs.Instructions.{name_segment, ops_of};
 ghost use Rattle.wm_syntax.specs.Lengths.{ops_len};
 ghost use Rattle.wm_syntax.specs.inner.Building.{tree_of};
 
@@ -52,5 +52,13 @@ impl Body {
         ensures { result ≡ min (ops_len (ops_of self.now)) (2 ^ 64 - 1) }
     {
         self.ops.len()
+    }
+
+    /// Whether an instruction of the body names a data segment (WebAssembly 2.0, 5.5.16). It was found while the body
+    /// was built.
+    pub fn names_segment(&self) -> bool
+        ensures { result ≡ name_segment (ops_of self.now) }
+    {
+        self.ops.names_segment()
     }
 }

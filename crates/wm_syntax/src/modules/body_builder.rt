@@ -8,8 +8,8 @@ ghost use Rattle.wm_syntax.specs.Lengths.{op_len};
 ghost use Rattle.wm_syntax.specs.inner.Builders.{fits, fits_list, is_else, is_first, last_of, last_set};
 ghost use Rattle.wm_syntax.specs.inner.Builders.{next_left, next_open, next_ops};
 
-use crate::instructions::Op;
-use crate::instructions::lengths::op_len;
+use crate::instructions::lengths::{op_len, simple_len};
+use crate::instructions::{Op, Simple};
 use crate::modules::body::Body;
 use crate::modules::sized_ops::{MOST_KEPT, SizedOps};
 use std::alloc::Global;
@@ -154,7 +154,7 @@ fn push_op(
 }
 
 // The fast path for an instruction without a list, outside of a br_table, if there is room. The op is
-// borrowed, since a copy would go through memory.
+// borrowed, since a copy would go through memory. One that names a data segment takes the slow path.
 #[inline(always)]
 fn push_fast(ops: &mut SizedOps, left: u64, op: &Op) -> bool
     ensures ops { result ≡ true → ops.new ≡ next_ops op.now ops.old }
@@ -164,7 +164,10 @@ fn push_fast(ops: &mut SizedOps, left: u64, op: &Op) -> bool
     ensures left { result ≡ false → ops.new ≡ ops.old }
 {
     match op {
-        Op::Simple(_) => left == 0 && ops.push_fast(op, op_len(op)),
+        Op::Simple(simple) if left == 0 => {
+            let (len, names_segment) = simple_len(simple);
+            !names_segment && ops.push_fast(op, len)
+        }
         _ => false,
     }
 }

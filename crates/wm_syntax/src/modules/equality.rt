@@ -8,11 +8,9 @@ ghost use Rattle.wm_syntax.specs.declared.modules.Module.{Module};
 use crate::instructions::{Numeric, Op, Simple};
 use crate::modules::body::Body;
 use crate::modules::locals::{Locals, Run};
-use crate::modules::{
-    Element, Export, ExportKind, Function, GlobalDef, Import, ImportDesc, Module, Segment,
-};
+use crate::modules::{Element, Export, Function, GlobalDef, Import, Module, Segment};
 use crate::opcode_table;
-use crate::types::{Const, FuncType, GlobalType, Limits, ValType};
+use crate::types::{FuncType, Limits, ValType};
 
 /// A type whose values can be compared.
 pub trait Same {
@@ -40,18 +38,6 @@ pub fn same_list<T: Same>(a: &[T], b: &[T]) -> bool
     right.is_empty()
 }
 
-impl Same for u8 {
-    fn same(&self, other: &u8) -> bool {
-        *self == *other
-    }
-}
-
-impl Same for u32 {
-    fn same(&self, other: &u32) -> bool {
-        *self == *other
-    }
-}
-
 impl Same for ValType {
     fn same(&self, other: &ValType) -> bool {
         *self == *other
@@ -60,30 +46,6 @@ impl Same for ValType {
 
 impl Same for Limits {
     fn same(&self, other: &Limits) -> bool {
-        *self == *other
-    }
-}
-
-impl Same for GlobalType {
-    fn same(&self, other: &GlobalType) -> bool {
-        *self == *other
-    }
-}
-
-impl Same for Const {
-    fn same(&self, other: &Const) -> bool {
-        *self == *other
-    }
-}
-
-impl Same for ExportKind {
-    fn same(&self, other: &ExportKind) -> bool {
-        *self == *other
-    }
-}
-
-impl Same for ImportDesc {
-    fn same(&self, other: &ImportDesc) -> bool {
         *self == *other
     }
 }
@@ -184,7 +146,7 @@ impl Same for Import {
     fn same(&self, other: &Import) -> bool {
         self.module_name == other.module_name
             && self.item_name == other.item_name
-            && self.desc.same(&other.desc)
+            && self.desc == other.desc
     }
 }
 
@@ -198,29 +160,25 @@ impl Same for Function {
 
 impl Same for GlobalDef {
     fn same(&self, other: &GlobalDef) -> bool {
-        self.ty.same(&other.ty) && self.init.same(&other.init)
+        self.ty == other.ty && self.init == other.init
     }
 }
 
 impl Same for Export {
     fn same(&self, other: &Export) -> bool {
-        self.name == other.name && self.kind.same(&other.kind) && self.index == other.index
+        self.name == other.name && self.kind == other.kind && self.index == other.index
     }
 }
 
 impl Same for Element {
     fn same(&self, other: &Element) -> bool {
-        self.table == other.table
-            && self.offset.same(&other.offset)
-            && same_list(&self.functions, &other.functions)
+        self.mode == other.mode && self.functions == other.functions
     }
 }
 
 impl Same for Segment {
     fn same(&self, other: &Segment) -> bool {
-        self.memory == other.memory
-            && self.offset.same(&other.offset)
-            && same_list(&self.bytes, &other.bytes)
+        self.mode == other.mode && self.bytes == other.bytes
     }
 }
 

@@ -3,15 +3,17 @@
 //! module.
 
 ghost use Rattle.std.specs.List.{AllByRecursion};
-ghost use Rattle.std.specs.Prelude.{◌<◌, IsUtf8};
-ghost use Rattle.wm_syntax.specs.Modules.{AreLimits, IsConst, IsDesc, IsModule, IsU32};
+ghost use Rattle.std.specs.Prelude.{IsUtf8};
+ghost use Rattle.wm_syntax.specs.Modules.{AreLimits, IsConst, IsDesc, IsMode, IsModule};
 ghost use Rattle.wm_syntax.specs.inner.Ranges.{IsInRange};
 ghost use Rattle.wm_syntax.specs.Spelling.{AreBytes};
 ghost use Rattle.wm_syntax.specs.Values.{value_of};
 
 use crate::instructions::Op;
 use crate::modules::body::Body;
-use crate::modules::{Element, Export, Function, GlobalDef, Import, ImportDesc, Module, Segment};
+use crate::modules::{
+    Element, Export, Function, GlobalDef, Import, ImportDesc, Module, Segment, SegmentMode,
+};
 use crate::types::{Const, Limits};
 
 // A value whose type restricts its range.
@@ -33,19 +35,11 @@ fn read_all<T: Ranged>(values: &[T])
     }
 }
 
-fn byte(value: u8)
-    ensures { value < 256 }
-{}
-
 fn bytes(values: &[u8])
     ensures { AreBytes values.now }
 {
     read_all(values);
 }
-
-fn index(value: u32)
-    ensures { IsU32 value }
-{}
 
 fn limits(value: Limits)
     ensures { AreLimits value }
@@ -58,6 +52,15 @@ fn constant(value: Const)
 fn description(value: ImportDesc)
     ensures { IsDesc value }
 {}
+
+fn mode(value: SegmentMode)
+    ensures { IsMode value }
+{
+    if let SegmentMode::Active { index, offset } = value {
+        index.read();
+        constant(offset);
+    }
+}
 
 fn instruction(value: Op)
     ensures { IsInRange value }
@@ -73,7 +76,7 @@ impl Ranged for u8 {
     ghost holds = { λ b. b < 256 };
 
     fn read(&self) {
-        byte(*self);
+        let _value = *self;
     }
 }
 
@@ -83,7 +86,7 @@ impl Ranged for u32 {
     ghost holds = { IsU32 };
 
     fn read(&self) {
-        index(*self);
+        let _value = *self;
     }
 }
 
@@ -105,7 +108,7 @@ impl Ranged for Export {
 
     fn read(&self) {
         name(&self.name);
-        index(self.index);
+        self.index.read();
     }
 }
 
@@ -134,26 +137,24 @@ impl Ranged for GlobalDef {
 
 impl Ranged for Element {
     ghost use Rattle.std.specs.List.{AllByRecursion};
-    ghost use Rattle.wm_syntax.specs.Modules.{IsConst, IsU32};
+    ghost use Rattle.wm_syntax.specs.Modules.{IsMode, IsU32};
 
-    ghost holds = { λ e. IsU32 e.table × IsConst e.offset × AllByRecursion IsU32 e.functions };
+    ghost holds = { λ e. IsMode e.mode × AllByRecursion IsU32 e.functions };
 
     fn read(&self) {
-        index(self.table);
-        constant(self.offset);
+        mode(self.mode);
         read_all(&self.functions);
     }
 }
 
 impl Ranged for Segment {
-    ghost use Rattle.wm_syntax.specs.Modules.{IsConst, IsU32};
+    ghost use Rattle.wm_syntax.specs.Modules.{IsMode};
     ghost use Rattle.wm_syntax.specs.Spelling.{AreBytes};
 
-    ghost holds = { λ s. IsU32 s.memory × IsConst s.offset × AreBytes s.bytes };
+    ghost holds = { λ s. IsMode s.mode × AreBytes s.bytes };
 
     fn read(&self) {
-        index(self.memory);
-        constant(self.offset);
+        mode(self.mode);
         bytes(&self.bytes);
     }
 }
@@ -185,8 +186,8 @@ impl Ranged for Function {
     ghost holds = { λ f. IsU32 f.type_index × (length f.locals < 2 ^ 32) × AreInstructions f.body };
 
     fn read(&self) {
-        index(self.type_index);
-        index(self.locals.len());
+        self.type_index.read();
+        self.locals.len().read();
         self.body.read();
     }
 }
@@ -203,7 +204,7 @@ impl Module {
         read_all(&self.globals);
         read_all(&self.exports);
         if let Some(start) = self.start {
-            index(start);
+            start.read();
         }
         read_all(&self.elements);
         read_all(&self.segments);

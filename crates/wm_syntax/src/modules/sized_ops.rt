@@ -1,7 +1,8 @@
-//! Ops held with their encoded length (Core spec 5.4), so that it need not be counted before they are
-//! written.
+//! Ops held with their encoded length (Core spec 5.4), and with whether one of them names a data segment. So no
+//! pass over the ops is needed before they are written.
 
 ghost use Rattle.std.specs.Prelude.{◌≡◌, ◌++◌, ◌∷◌, ◌-◌, ◌^◌, [], Some, OnErr, OnOk, false, min, true};
+ghost use Rattle.wm_syntax.specs.Instructions.{name_segment, names_segment};
 ghost use Rattle.wm_syntax.specs.Lengths.{op_len, ops_len};
 ghost use Rattle.wm_syntax.specs.declared.instructions.Op.TheVariants.{Else, End};
 ghost use Rattle.wm_syntax.specs.inner.Builders.{last_of, last_set};
@@ -18,15 +19,18 @@ const FEW: usize = 64;
 /// A list with room for at most this many ops is kept when they are taken, and reused for the next ones.
 pub(crate) const MOST_KEPT: usize = 1024;
 
-/// Ops, and their encoded length in bytes, which saturates at 2^64 - 1.
+/// Ops, and their encoded length in bytes, which saturates at 2^64 - 1. `names_segment` is true if one of them names
+/// a data segment.
 #[derive(Drop)]
 pub(crate) struct SizedOps {
     ops: Vec<Op>,
     len: u64,
+    names_segment: bool,
 }
 
 impl Model for SizedOps {
     ghost use Rattle.std.specs.Prelude.{List, ◌≡◌, ◌-◌, ◌^◌, min};
+    ghost use Rattle.wm_syntax.specs.Instructions.{name_segment};
     ghost use Rattle.wm_syntax.specs.Lengths.{ops_len};
     ghost use Rattle.wm_syntax.specs.declared.instructions.Op.{Op as OpValue};
     ghost use Rattle.wm_syntax.specs.inner.Codes.{ops_code};
@@ -37,10 +41,11 @@ impl Model for SizedOps {
 
     ghost view = { λ o. o.ops.items };
 
-    ghost invariant = { λ o. o.len ≡ min (ops_len o.ops.items) (2 ^ 64 - 1) };
+    ghost invariant = { λ o. (o.len ≡ min (ops_len o.ops.items) (2 ^ 64 - 1))
+        × (o.names_segment ≡ name_segment o.ops.items) };
 }
 
-// Leaves out the length, which the ops determine.
+// Leaves out the other fields, which the ops determine.
 impl fmt::Debug for SizedOps {
     fn fmt<W: fmt::Write>(&self, f: &mut fmt::Formatter<W>) -> fmt::Result {
         fmt::Debug::fmt(&self.ops, f)
@@ -55,6 +60,7 @@ impl SizedOps {
         SizedOps {
             ops: Vec::new(alloc),
             len: 0,
+            names_segment: false,
         }
     }
 
@@ -71,6 +77,13 @@ impl SizedOps {
         self.len
     }
 
+    /// Whether one of the ops names a data segment.
+    pub(crate) fn names_segment(&self) -> bool
+        ensures { result ≡ name_segment self.now }
+    {
+        self.names_segment
+    }
+
     /// Appends an op with this encoded length.
     #[inline(always)]
     pub(crate) fn push(&mut self, op: Op, len: u64) -> Result<(), AllocError>
@@ -84,13 +97,17 @@ impl SizedOps {
         }
         self.ops.push_reserved(op);
         self.len = self.len.saturating_add(len);
+        if op.names_segment() {
+            self.names_segment = true;
+        }
         Ok(())
     }
 
-    /// Appends a borrowed op if there is room. Otherwise returns false and changes nothing.
+    /// Appends a borrowed op that names no data segment, if there is room. Otherwise returns false and changes nothing.
     #[inline(always)]
     pub(crate) fn push_fast(&mut self, op: &Op, len: u64) -> bool
-        requires { len ≡ op_len op.now }
+        requires len { len ≡ op_len op.now }
+        requires names { names_segment op.now ≡ false }
         ensures taken { result ≡ true → self.new ≡ self.old ++ op.now ∷ [] }
         ensures left { result ≡ false → self.new ≡ self.old }
     {
@@ -119,9 +136,13 @@ impl SizedOps {
     {
         if self.ops.capacity() <= MOST_KEPT {
             if let Ok(ops) = Vec::from_slice(alloc, &self.ops) {
-                let len = self.len;
+                let (len, names_segment) = (self.len, self.names_segment);
                 self.clear();
-                return SizedOps { ops, len };
+                return SizedOps {
+                    ops,
+                    len,
+                    names_segment,
+                };
             }
         }
         let mut all = mem::replace(self, SizedOps::new(alloc));
@@ -135,6 +156,7 @@ impl SizedOps {
     {
         self.ops.clear();
         self.len = 0;
+        self.names_segment = false;
     }
 
     /// Releases memory that no op fills.

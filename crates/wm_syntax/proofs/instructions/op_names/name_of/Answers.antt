@@ -9,5 +9,5 @@ returns c = record {
   exact = c.name_at.ensures;
 }
 
-pub returns-then-wanted-ge268-clause-exact : goal.returns-then-wanted-ge268-clause-exact
-returns-then-wanted-ge268-clause-exact c = sym (name_past c.args.wanted c.if-wanted-ge268.true)
+pub returns-then-wanted-ge271-clause-exact : goal.returns-then-wanted-ge271-clause-exact
+returns-then-wanted-ge271-clause-exact c = sym (name_past c.args.wanted c.if-wanted-ge271.true)

@@ -5,7 +5,7 @@ use Rattle.wm_syntax.proofs.instructions.op_names.op_named.Given as goal
 abbrev pub invariant-loop-low : goal.invariant-loop-low
 invariant-loop-low l = record {
   order : l.low ≤ l.high;
-  size : l.high ≤ 187;
+  size : l.high ≤ 192;
   below : Below l.word l.low;
   above : Above l.word l.high;
 }
