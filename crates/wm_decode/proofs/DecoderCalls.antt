@@ -29,13 +29,13 @@ use Rattle.wm_machine.proofs.Floats.{ends_in_float}
 
 -- why an input is refused at its end
 abbrev AtEnd : Why → Type 0
-AtEnd w = (w ≡ why.Truncated) ⊎ (w ≡ why.CodeCount)
+AtEnd w = (w ≡ why.Truncated) ⊎ ((w ≡ why.CodeCount) ⊎ (w ≡ why.DataCount))
 
 not_memory : (w : Why) → AtEnd w → w ≡ why.Memory → ⊥
-not_memory w e m = elim e [ inl t ↦ cc | inr c ↦ cc ]
+not_memory w e m = elim e [ inl t ↦ cc | inr o ↦ elim o [ inl c ↦ cc | inr d ↦ cc ] ]
 
 not_float : (w : Why) → AtEnd w → w ≡ why.Float → ⊥
-not_float w e m = elim e [ inl t ↦ cc | inr c ↦ cc ]
+not_float w e m = elim e [ inl t ↦ cc | inr o ↦ elim o [ inl c ↦ cc | inr d ↦ cc ] ]
 
 -- a list of numbers that fit eight bits
 pub are_bytes : (b : List ℕ) → ((i : ℕ) → get_or b i 0 < 2 ^ 8) → AreBytes b
@@ -236,11 +236,16 @@ module _ {S H : Type 0} (held : S → H) (after : H → Item → Result H Why) (
 
     -- a decoder that ends in a refusal has refused already, or stands at the end of what it was fed
     ended_why : (m : Machine) (h : H) (at : ℕ) (r : Refusal) → (IsRefused m → ⊥) → answer_at_end_of m h at ≡ Err r → (at ≡ r.at) × AtEnd r.why
-    ended_why (machine.Between last counts) h at r i e = between counts.functions e
+    ended_why (machine.Between last counts) h at r i e = between counts.functions counts.segments e
       where
-        between : (n : ℕ) → answer_between n h at ≡ Err r → (at ≡ r.at) × AtEnd r.why
-        between zero e = cc
-        between (suc n) e = let s : record { at = at; why = why.CodeCount } ≡ r = cc in (ap (λ (y : Refusal). y.at) s, inr (sym (ap (λ (y : Refusal). y.why) s)))
+        named : (w : Why) → record { at = at; why = w } ≡ r → (at ≡ r.at) × (r.why ≡ w)
+        named w s = (ap (λ (y : Refusal). y.at) s, sym (ap (λ (y : Refusal). y.why) s))
+
+        between : (n : ℕ) (g : Option ℕ) → answer_between n g h at ≡ Err r → (at ≡ r.at) × AtEnd r.why
+        between (suc n) g e = let i = named why.CodeCount (cc (e)) in (i.0, inr (inl i.1))
+        between zero None e = absurd (cc)
+        between zero (Some zero) e = absurd (cc)
+        between zero (Some (suc m)) e = let i = named why.DataCount (cc (e)) in (i.0, inr (inr i.1))
     ended_why (machine.Refused w) h at r i e = absurd (i tt)
     ended_why m h at r i e = let s : record { at = at; why = why.Truncated } ≡ r = cc in (ap (λ (y : Refusal). y.at) s, inl (sym (ap (λ (y : Refusal). y.why) s)))
 

@@ -1,5 +1,5 @@
 -- The members of a section that come before a byte.
-use Rattle.std.proofs.Common.{◌≡◌, ◌<◌, ◌≤◌, ◌-◌, ◌^◌, ◌⊎◌, inl, inr, ℕ, zero, suc, List, [], ◌∷◌, ◌++◌, Option, Some, None, Ok, true, false, refl, sym, ◌∙◌, ap, subst, arith, append_assoc, append-nil, cond, length, nat_eq, nat_lt, nat_le}
+use Rattle.std.proofs.Common.{◌≡◌, ◌≢◌, ◌<◌, ◌≤◌, ◌-◌, ◌^◌, ◌⊎◌, inl, inr, ℕ, zero, suc, List, [], ◌∷◌, ◌++◌, Option, Some, None, Ok, true, false, refl, sym, ◌∙◌, ap, subst, arith, append_assoc, append-nil, cond, length, nat_eq, nat_lt, nat_le}
 use Rattle.std.proofs.lemmas.Bool.{cond_both}
 use Rattle.std.specs.Prelude.{slice_index}
 use Rattle.std.specs.Str.{is_utf8}
@@ -27,14 +27,14 @@ use Rattle.wm_machine.specs.Items.{Mark, Marks, Zone, outside}
 use Rattle.wm_machine.specs.MarkedForms.{MarkedForm, Times, outside_mark}
 use Rattle.wm_machine.specs.Sections.{header}
 use Rattle.wm_machine.specs.exact.Live.{IsRefused}
-use Rattle.wm_machine.specs.exact.Members.{id_of, section_kind_of, member_at_start}
+use Rattle.wm_machine.specs.exact.Members.{id_of, rank_of, section_kind_of, member_at_start}
 use Rattle.wm_machine.specs.exact.MemberSteps.{on_number, member_step}
 use Rattle.wm_machine.specs.exact.Runs.{ByteRead, MachineState, byte_read, name_item, after_byte, state_after, state_at_start, zone_in, zone_of}
-use Rattle.wm_machine.specs.exact.Steps.{after_count, after_size, begun_last, begun_section, counts_in, custom_size, custom_step, header_step, machine_after_count, machine_after_paired_count, machine_if_rising, machine_in_custom, machine_in_member, section_start, step_of}
+use Rattle.wm_machine.specs.exact.Steps.{after_count, after_size, begun_last, begun_section, count_event, counts_in, is_given, custom_size, custom_step, header_step, machine_after_count, machine_after_paired_count, machine_if_rising, machine_in_custom, machine_in_member, section_start, step_of}
 use Rattle.wm_machine.proofs.FirstBytes.{Next}
 use Rattle.wm_machine.proofs.FramedBytes.{Framed, InContents, Numbers, Sizes, at_size, numbers, one_byte, run_framed}
 use Rattle.wm_machine.proofs.MachineAndSink.{refused_run}
-use Rattle.wm_machine.proofs.MachineStates.{Fits, byte_fits}
+use Rattle.wm_machine.proofs.MachineStates.{Fits, byte_fits, rank_few, rank_some}
 use Rattle.wm_machine.proofs.MemberBytes.{ComponentRest, OneOf, component_follows, component_has}
 use Rattle.wm_machine.proofs.MemberSound.{CanGo, MayGo, can_go_on}
 use Rattle.wm_machine.proofs.WholeMachine.{begin_at, one_has}
@@ -86,23 +86,31 @@ says_number : (of : SectionKind) → IsListed of → (n : ℕ) (b : List ℕ) �
 says_number section_kind.Start listed n b h = absurd listed
 says_number of listed n b h = h
 
-id_range : (of : SectionKind) → (0 < id_of of) × (id_of of ≤ 11)
-id_range section_kind.Type = (omega arith, omega arith)
-id_range section_kind.Import = (omega arith, omega arith)
-id_range section_kind.Function = (omega arith, omega arith)
-id_range section_kind.Table = (omega arith, omega arith)
-id_range section_kind.Memory = (omega arith, omega arith)
-id_range section_kind.Global = (omega arith, omega arith)
-id_range section_kind.Export = (omega arith, omega arith)
-id_range section_kind.Start = (omega arith, omega arith)
-id_range section_kind.Element = (omega arith, omega arith)
-id_range section_kind.Code = (omega arith, omega arith)
-id_range section_kind.Segment = (omega arith, omega arith)
+-- the data count section has no members
+abbrev HasMembers : SectionKind → Type 0
+HasMembers section_kind.DataCount = ⊥
+HasMembers of = Unit {0}
 
-members_in : (of : SectionKind) (counts : Counts) (n : ℕ) → (counts_in of counts n).members ≡ n
-members_in section_kind.Function counts n = refl
-members_in section_kind.Code counts n = refl
-members_in of counts n = refl
+not_ten : (of : SectionKind) → HasMembers of → rank_of of ≢ 10
+not_ten section_kind.DataCount has e = has
+not_ten section_kind.Type has e = omega (arith, e)
+not_ten section_kind.Import has e = omega (arith, e)
+not_ten section_kind.Function has e = omega (arith, e)
+not_ten section_kind.Table has e = omega (arith, e)
+not_ten section_kind.Memory has e = omega (arith, e)
+not_ten section_kind.Global has e = omega (arith, e)
+not_ten section_kind.Export has e = omega (arith, e)
+not_ten section_kind.Start has e = omega (arith, e)
+not_ten section_kind.Element has e = omega (arith, e)
+not_ten section_kind.Code has e = omega (arith, e)
+not_ten section_kind.Segment has e = omega (arith, e)
+
+members_in : (of : SectionKind) (counts : Counts) (n : ℕ) → HasMembers of → (counts_in of counts n).members ≡ n
+members_in section_kind.Function counts n h = refl
+members_in section_kind.DataCount counts n h = absurd h
+members_in section_kind.Code counts n h = refl
+members_in section_kind.Segment counts n h = refl
+members_in of counts n h = refl
 
 module _ (p : Profile) where
   abbrev One : SectionKind → MarkedForm
@@ -161,21 +169,21 @@ module _ (p : Profile) where
     unfinished : Unfinished of begun
 
   abbrev Stands : Machine → List ℕ → List ℕ → Type 0
-  Stands (machine.Section of counts more left q) y b = (last : ℕ) × (h : InContents last (id_of of) (suc more) b) × Standing of counts left q y h.contents
+  Stands (machine.Section of counts more left q) y b = HasMembers of × (last : ℕ) × (h : InContents last (id_of of) (suc more) b) × Standing of counts left q y h.contents
   Stands (machine.Count of counts more r) y b = IsListed of
   Stands m y b = Unit {0}
 
   -- the first member begins
-  begins : (last : ℕ) (of : SectionKind) (counts : Counts) (more left : ℕ) (q : InMember) (y b : List ℕ) → (h : InContents last (id_of of) more b) → Standing of counts left q y h.contents → Stands (machine_in_member of counts more left q) y b
-  begins last of counts more left (at.Failed w) y b h s = tt
-  begins last of counts zero zero at.Over y b h s = tt
-  begins last of counts (suc n) zero at.Over y b h s = tt
-  begins last of counts zero (suc l) at.Over y b h s = tt
-  begins last of counts (suc n) (suc l) at.Over y b h s =
+  begins : (last : ℕ) (of : SectionKind) (counts : Counts) (more left : ℕ) (q : InMember) (y b : List ℕ) → HasMembers of → (h : InContents last (id_of of) more b) → Standing of counts left q y h.contents → Stands (machine_in_member of counts more left q) y b
+  begins last of counts more left (at.Failed w) y b has h s = tt
+  begins last of counts zero zero at.Over y b has h s = tt
+  begins last of counts (suc n) zero at.Over y b has h s = tt
+  begins last of counts zero (suc l) at.Over y b has h s = tt
+  begins last of counts (suc n) (suc l) at.Over y b has h s =
       let o = s.part.from [] [] (refl, refl) in
       absurd (s.unfinished s.begun [] o.0 (sym (append-nil s.begun)) (subst (λ z. One of z o.0) (append-nil s.begun) o.1))
-  begins last of counts zero left q y b h s = tt
-  begins last of counts (suc n) left q y b h s = (last, h, s)
+  begins last of counts zero left q y b has h s = tt
+  begins last of counts (suc n) left q y b has h s = (has, last, h, s)
 
   -- a byte of a member, which may be its last
   record Reached (of : SectionKind) (counts : Counts) (left : ℕ) (q : InMember) (y : List ℕ) (c : ℕ) (contents : List ℕ) : Type 0 where
@@ -190,16 +198,17 @@ module _ (p : Profile) where
     part : Part of q y (begun ++ c ∷ [])
     unfinished : Unfinished of begun
 
-  placed : (last : ℕ) (of : SectionKind) (counts : Counts) (more left : ℕ) (q : InMember) (y : List ℕ) (c : ℕ) (b : List ℕ) → MayGo p more q → (h : InContents last (id_of of) more b) → Reached of counts left q y c h.contents
+  placed : (last : ℕ) (of : SectionKind) (counts : Counts) (more left : ℕ) (q : InMember) (y : List ℕ) (c : ℕ) (b : List ℕ) → HasMembers of → MayGo p more q → (h : InContents last (id_of of) more b) → Reached of counts left q y c h.contents
       → Stands (machine_in_member of counts more left q) y b
-  placed last of counts more left (at.Failed w) y c b go h r = tt
-  placed last of counts zero zero at.Over y c b go h r = tt
-  placed last of counts (suc n) zero at.Over y c b go h r = tt
-  placed last of counts zero (suc l) at.Over y c b go h r = tt
-  placed last of counts (suc n) (suc l) at.Over y c b go h r =
+  placed last of counts more left (at.Failed w) y c b has go h r = tt
+  placed last of counts zero zero at.Over y c b has go h r = tt
+  placed last of counts (suc n) zero at.Over y c b has go h r = tt
+  placed last of counts zero (suc l) at.Over y c b has go h r = tt
+  placed last of counts (suc n) (suc l) at.Over y c b has go h r =
       let one : List ℕ = r.begun ++ c ∷ [] in
       let o = r.part.from [] [] (refl, refl) in
       let next : suc (counts.members - suc l - 1) ≡ counts.members - l - 1 = let f = r.further in omega (arith, f) in (
+        has,
         last,
         h,
         record {
@@ -216,8 +225,9 @@ module _ (p : Profile) where
           unfinished = none_finished of;
         },
       )
-  placed last of counts zero left q y c b go h r = tt
-  placed last of counts (suc n) left q y c b go h r = (
+  placed last of counts zero left q y c b has go h r = tt
+  placed last of counts (suc n) left q y c b has go h r = (
+    has,
     last,
     h,
     record {
@@ -250,13 +260,13 @@ module _ (p : Profile) where
   heard zone y c b m (event.EndsName kind) h = cond_both (is_utf8 (y ++ c ∷ [])) _ _ (λ (r : ByteRead Machine). Stands r.at r.name b) (λ _. h []) (λ _. tt)
 
   -- in a section
-  module _ (of : SectionKind) (counts : Counts) (more left : ℕ) (q : InMember) (y : List ℕ) (c : ℕ) (b : List ℕ) (last : ℕ) (h : InContents last (id_of of) (suc more) b) (s : Standing of counts left q y h.contents) where
+  module _ (of : SectionKind) (counts : Counts) (more left : ℕ) (q : InMember) (y : List ℕ) (c : ℕ) (b : List ℕ) (has : HasMembers of) (last : ℕ) (h : InContents last (id_of of) (suc more) b) (s : Standing of counts left q y h.contents) where
     abbrev Follows : ByteRead InMember → Type 0
     Follows r = Next strict (Rest q y) c r.mark (Rest r.at r.name)
 
     goes : (r : InMember) (z : List ℕ) (m : Mark) → MayGo p more r → Next strict (Rest q y) c m (Rest r z) → Stands (machine_in_member of counts more left r) z (b ++ c ∷ [])
     unfolding one_byte
-    goes r z m go n = placed last of counts more left r z c (b ++ c ∷ []) go (one_byte last (id_of of) more b c h) (record {
+    goes r z m go n = placed last of counts more left r z c (b ++ c ∷ []) has go (one_byte last (id_of of) more b c h) (record {
       number = s.number;
       members = s.members;
       begun = s.begun;
@@ -318,13 +328,13 @@ module _ (p : Profile) where
       at_last (suc n) = tt
   begun_none of counts y c b = tt
 
-  rising_none : (last : ℕ) (counts : Counts) (id : ℕ) (q : Option SectionKind) (y : List ℕ) (c : ℕ) (b : List ℕ) → Heard outside y c b (machine_if_rising last counts id q)
-  rising_none last counts id None y c b = tt
-  rising_none last counts id (Some of) y c b = cond_both (nat_le id last) _ _ (Heard outside y c b) (λ _. tt) (λ _. begun_none of counts y c b)
+  rising_none : (last : ℕ) (counts : Counts) (q : Option SectionKind) (y : List ℕ) (c : ℕ) (b : List ℕ) → Heard outside y c b (machine_if_rising last counts q)
+  rising_none last counts None y c b = tt
+  rising_none last counts (Some of) y c b = cond_both (nat_le (rank_of of) last) _ _ (Heard outside y c b) (λ _. tt) (λ _. begun_none of counts y c b)
 
-  start_none : (last : ℕ) (counts : Counts) (c : ℕ) (y b : List ℕ) → Heard outside y c b (section_start last counts c)
+  start_none : (last : ℕ) (counts : Counts) (c : ℕ) (y b : List ℕ) → Heard outside y c b (section_start p last counts c)
   start_none last counts zero y b = tt
-  start_none last counts (suc m) y b = rising_none last counts (suc m) (section_kind_of (suc m)) y (suc m) b
+  start_none last counts (suc m) y b = rising_none last counts (section_kind_of p (suc m)) y (suc m) b
 
   -- at a size
   custom_size_none : (last : ℕ) (counts : Counts) (q : Step ℕ × Partial) (y : List ℕ) (c : ℕ) (b : List ℕ)
@@ -336,6 +346,7 @@ module _ (p : Profile) where
   after_none : (last : ℕ) (of : SectionKind) (counts : Counts) (n : ℕ) (b : List ℕ) → (h : InContents last (id_of of) n b) → h.contents ≡ [] → Stands (after_size of counts n) [] b
   after_none last of counts zero b h e = tt
   after_none last section_kind.Start counts (suc n) b h e = (
+    tt,
     last,
     h,
     record {
@@ -364,12 +375,12 @@ module _ (p : Profile) where
   over_none of counts zero y b = tt
   over_none of counts (suc n) y b = tt
 
-  listed_stands : (last : ℕ) (of : SectionKind) (counts : Counts) (bytes n : ℕ) (b : List ℕ) → IsListed of → counts.members ≡ n → (h : InContents last (id_of of) bytes b) → SpellsU32 n h.contents
+  listed_stands : (last : ℕ) (of : SectionKind) (counts : Counts) (bytes n : ℕ) (b : List ℕ) → IsListed of → HasMembers of → counts.members ≡ n → (h : InContents last (id_of of) bytes b) → SpellsU32 n h.contents
       → Stands (machine_after_count of counts bytes n) [] b
-  listed_stands last of counts bytes zero b listed e h u = over_none of counts bytes [] b
-  listed_stands last of counts bytes (suc n) b listed e h u =
+  listed_stands last of counts bytes zero b listed has e h u = over_none of counts bytes [] b
+  listed_stands last of counts bytes (suc n) b listed has e h u =
       let none : 0 ≡ counts.members - n - 1 = omega (arith, e) in
-      begins last of counts bytes n (member_at_start of) [] b h (record {
+      begins last of counts bytes n (member_at_start of) [] b has h (record {
         number = h.contents;
         members = [];
         begun = [];
@@ -386,14 +397,23 @@ module _ (p : Profile) where
       → Stands (machine_after_paired_count of counts bytes n) [] b
   paired_stands last section_kind.Code counts bytes n b listed h u =
       cond_both (nat_eq n counts.functions) _ _ (λ (m : Machine). Stands m [] b)
-      (λ _. listed_stands last section_kind.Code (counts_in section_kind.Code counts n) bytes n b listed refl h u) (λ _. tt)
-  paired_stands last of counts bytes n b listed h u = listed_stands last of (counts_in of counts n) bytes n b listed (members_in of counts n) h u
+      (λ _. listed_stands last section_kind.Code (counts_in section_kind.Code counts n) bytes n b listed tt refl h u) (λ _. tt)
+  paired_stands last section_kind.DataCount counts bytes n b listed h u = over_none section_kind.DataCount (counts_in section_kind.DataCount counts n) bytes [] b
+  paired_stands last section_kind.Segment counts bytes n b listed h u =
+      cond_both (is_given counts.segments n) _ _ (λ (m : Machine). Stands m [] b)
+      (λ _. listed_stands last section_kind.Segment (counts_in section_kind.Segment counts n) bytes n b listed tt refl h u) (λ _. tt)
+  paired_stands last of counts bytes n b listed h u = listed_stands last of (counts_in of counts n) bytes n b listed tt (members_in of counts n tt) h u
+
+  -- whether the number completes an item or not
+  count_heard : (of : SectionKind) (n : ℕ) (m : Machine) (y : List ℕ) (c : ℕ) (b : List ℕ) → Stands m [] b → Heard outside y c b (m, count_event of n)
+  count_heard section_kind.DataCount n m y c b h = h
+  count_heard of n m y c b h = h
 
   count_stands : (last : ℕ) (of : SectionKind) (counts : Counts) (more : ℕ) (q : Step ℕ × Partial) (y : List ℕ) (c : ℕ) (b : List ℕ) → IsListed of → (h : InContents last (id_of of) more b) → Numbers h.contents q
       → Heard outside y c b (after_count of counts more q)
   count_stands last of counts zero (More, r) y c b listed h u = tt
   count_stands last of counts (suc n) (More, r) y c b listed h u = listed
-  count_stands last of counts more (Done n, r) y c b listed h u = paired_stands last of counts more n b listed h u
+  count_stands last of counts more (Done n, r) y c b listed h u = count_heard of n (machine_after_paired_count of counts more n) y c b (paired_stands last of counts more n b listed h u)
   count_stands last of counts more (Bad, r) y c b listed h u = tt
 
   -- each byte
@@ -408,7 +428,7 @@ module _ (p : Profile) where
   step_stands (machine.Count of counts more r) y b c byte fits f s =
       count_stands f.0 of counts more (unsigned_push 32 r c) y c (b ++ c ∷ []) s (one_byte f.0 (id_of of) more b c f.2) (numbers r f.2.contents c byte f.4)
   step_stands (machine.Section of counts more left q) y b c byte fits f s =
-      by_event of counts more left q y c b s.0 s.1 s.2 (zone_in q) (member_step p q c).0 (member_step p q c).1 (can_go_on p more q c byte fits.2) (component_follows strict p more q y c fits.2 byte)
+      by_event of counts more left q y c b s.0 s.1 s.2 s.3 (zone_in q) (member_step p q c).0 (member_step p q c).1 (can_go_on p more q c byte fits.2) (component_follows strict p more q y c fits.2 byte)
   step_stands (machine.Refused w) y b c byte fits f s = tt
 
   run_stands : (s : MachineState) (before b : List ℕ) → AreBytes b → Fits p s.machine → Framed s.machine before → Stands s.machine s.name before → Stands (state_after p s b).machine (state_after p s b).name (before ++ b)
@@ -448,6 +468,7 @@ module _ (p : Profile) where
   found (machine.Custom last counts more q) y b place k s e i = absurd (no_item 0 _ place k e i)
   found (machine.Size of counts r) y b place k s e i = absurd (no_item (id_of of) _ place k e i)
   found (machine.Count of counts more r) y b place k s e i = absurd (no_item (id_of of) _ place k e i)
+  found (machine.Section section_kind.DataCount counts more left q) y b place k s e i = absurd s.0
   found (machine.Section of counts more left q) y b place k s e i = subst (λ n. LiesInMember p n k b) section (subst (λ n. LiesInMember p (id_of of) n b) index here)
     where
       section : id_of of ≡ place.section
@@ -464,8 +485,9 @@ module _ (p : Profile) where
 
       here : LiesInMember p (id_of of) (counts.members - left - 1) b
       here =
-          let h = s.1 in let r = s.2 in
+          let h = s.2 in let r = s.3 in
           record {
+            rank = rank_of of;
             sections = h.past.sections;
             front = h.front;
             size = h.size;
@@ -477,7 +499,8 @@ module _ (p : Profile) where
             begun = r.begun;
             whole = h.whole ∙ ap (λ z. h.front ++ id_of of ∷ (h.size ++ z)) r.whole;
             before = h.past.spelled;
-            listed = id_range of;
+            named = refl;
+            listed = (rank_some of, rank_few of, not_ten of s.0);
             sized = h.number;
             inside = let room = h.room in omega (arith, room, ap length r.whole);
             numbered = r.numbered;

@@ -70,7 +70,7 @@ refused_by w h e = h (let s : w ≡ why.Memory = cc in s)
 
 past : (p : Profile) (m : Machine) (c : ℕ) → (IsHeader m → ⊥) → (IsRefused m → ⊥) → Never (step_of p m c).0
 past p m c behind live =
-    step_out Never live_never (λ e. cc) (λ e. cc) (λ e. cc) (λ e. cc) (λ e. cc) p m c behind
+    step_out Never live_never (λ e. cc) (λ e. cc) (λ e. cc) (λ e. cc) (λ e. cc) (λ e. cc) p m c behind
     (λ w e. absurd (live (subst IsRefused (sym e) tt)))
     (λ q w e. refused_by w (λ f. custom_never q c (e ∙ ap custom.Failed f)))
     (λ q w e. refused_by w (λ f. component_memory c p q (e ∙ ap at.Failed f)))

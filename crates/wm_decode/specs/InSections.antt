@@ -2,7 +2,7 @@
 use Rattle.std.specs.Prelude.{◌≡◌, ◌≢◌, ◌<◌, ◌≤◌, ℕ, zero, suc, List, [], ◌∷◌, ◌++◌, length}
 use Rattle.wm_syntax.specs.Types.{SpellsU32}
 use Rattle.wm_syntax.specs.declared.profile.Profile.{Profile}
-use Rattle.wm_machine.specs.Grammar.{Member, strict}
+use Rattle.wm_machine.specs.Grammar.{Member, id_at, strict}
 use Rattle.wm_machine.specs.Items.{Marks}
 use Rattle.wm_machine.specs.MarkedForms.{Times}
 use Rattle.wm_machine.specs.Meanings.{RawSection, SpellsRaw, SpellsSections}
@@ -29,8 +29,10 @@ SaysMembers id n b = SpellsU32 n b
 
 -- The byte after these bytes lies in a section with this id, after k whole members of it, and before its end. The bytes
 -- are the header and complete sections, the id, the size and the number of the members, k members, and further bytes,
--- no front of which is a member. Core spec 5.5.2.
+-- no front of which is a member. The section is not the data count section, which has the rank 10 and no members.
+-- Core spec 5.5.2.
 pub record LiesInMember (p : Profile) (id k : ℕ) (bytes : List ℕ) : Type 0 where
+  pub rank : ℕ
   pub sections : List RawSection
   pub front : List ℕ
   pub size : List ℕ
@@ -42,10 +44,11 @@ pub record LiesInMember (p : Profile) (id k : ℕ) (bytes : List ℕ) : Type 0 w
   pub begun : List ℕ
   pub whole : bytes ≡ front ++ id ∷ (size ++ (number ++ (members ++ begun)))
   pub before : SpellsSections sections front
-  pub listed : (0 < id) × (id ≤ 11)
+  pub named : id ≡ id_at rank
+  pub listed : (0 < rank) × (rank ≤ 12) × (rank ≢ 10)
   pub sized : SpellsU32 bytes_of_section size
   pub inside : length (number ++ (members ++ begun)) < bytes_of_section
   pub numbered : SaysMembers id n number
   pub further : k < n
-  pub each : Times k (Member strict p id) members marks
-  pub unfinished : (a b : List ℕ) (m : Marks) → begun ≡ a ++ b → Member strict p id a m → ⊥
+  pub each : Times k (Member strict p rank) members marks
+  pub unfinished : (a b : List ℕ) (m : Marks) → begun ≡ a ++ b → Member strict p rank a m → ⊥

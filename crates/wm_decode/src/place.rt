@@ -15,10 +15,11 @@ pub(crate) mod awaits;
 /// Where a byte lies in a module.
 #[derive(Clone, Copy, PartialEq, Eq, Debug)]
 pub struct Place {
-    /// The id of its section: 0 for a custom section, else 1 to 11. Core spec 5.5.2.
+    /// The id of its section: 0 for a custom section, else 1 to 12. Core spec 5.5.2; WebAssembly 2.0, 5.5.2.
     pub section: u8,
     /// The number of members of the section before the one that it lies in. `None` in the size and the member count of
-    /// a section, and in a custom section. The start function is the one member of its section.
+    /// a section, in a custom section, and in a data count section. The start function is the one member of its
+    /// section.
     pub item: Option<u32>,
     /// The part of the format that it belongs to.
     pub awaits: Awaits,

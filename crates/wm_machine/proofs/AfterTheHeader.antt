@@ -19,9 +19,9 @@ use Rattle.wm_machine.specs.declared.machine.member.SectionKind.{SectionKind}
 use Rattle.wm_machine.specs.declared.machine.member.SectionKind.TheVariants as section_kind
 use Rattle.wm_machine.specs.declared.machine.member.InMember.{InMember}
 use Rattle.wm_machine.specs.declared.machine.member.InMember.TheVariants as at
-use Rattle.wm_machine.specs.exact.Members.{section_kind_of, member_at_start}
+use Rattle.wm_machine.specs.exact.Members.{rank_of, section_kind_of, member_at_start}
 use Rattle.wm_machine.specs.exact.MemberSteps.{on_number, member_step}
-use Rattle.wm_machine.specs.exact.Steps.{counts_in, begun_last, custom_step, machine_in_custom, machine_in_member, machine_after_count, machine_after_paired_count, count_more, after_count, begun_section, machine_if_rising, section_start, machine_in_contents, after_size, custom_size, step_of}
+use Rattle.wm_machine.specs.exact.Steps.{counts_in, is_given, begun_last, custom_step, machine_in_custom, machine_in_member, machine_after_count, machine_after_paired_count, count_more, after_count, begun_section, machine_if_rising, section_start, machine_in_contents, after_size, custom_size, step_of}
 
 -- past the header, and not refused
 abbrev pub IsLive : Machine → Type 0
@@ -73,6 +73,7 @@ module _ (P : Machine → Type 0) (live : (m : Machine) → IsLive m → P m) (e
   begins section_kind.Export w e = cc
   begins section_kind.Start w e = cc
   begins section_kind.Element w e = cc
+  begins section_kind.DataCount w e = cc
   begins section_kind.Code w e = cc
   begins section_kind.Segment w e = cc
 
@@ -83,27 +84,28 @@ module _ (P : Machine → Type 0) (live : (m : Machine) → IsLive m → P m) (e
   listed_out of counts bytes zero = framed_out of counts bytes zero at.Over not_over
   listed_out of counts bytes (suc n) = framed_out of counts bytes n (member_at_start of) (begins of)
 
-  counted_out : (count : P (machine.Refused why.CodeCount)) → (of : SectionKind) (counts : Counts) (bytes n : ℕ) → P (machine_after_paired_count of counts bytes n)
-  counted_out count section_kind.Function counts bytes n = listed_out section_kind.Function (counts_in section_kind.Function counts n) bytes n
-  counted_out count section_kind.Code counts bytes n = cond_both (nat_eq n counts.functions) _ _ P (λ _. listed_out section_kind.Code (counts_in section_kind.Code counts n) bytes n) (λ _. count)
-  counted_out count section_kind.Type counts bytes n = listed_out section_kind.Type (counts_in section_kind.Type counts n) bytes n
-  counted_out count section_kind.Import counts bytes n = listed_out section_kind.Import (counts_in section_kind.Import counts n) bytes n
-  counted_out count section_kind.Table counts bytes n = listed_out section_kind.Table (counts_in section_kind.Table counts n) bytes n
-  counted_out count section_kind.Memory counts bytes n = listed_out section_kind.Memory (counts_in section_kind.Memory counts n) bytes n
-  counted_out count section_kind.Global counts bytes n = listed_out section_kind.Global (counts_in section_kind.Global counts n) bytes n
-  counted_out count section_kind.Export counts bytes n = listed_out section_kind.Export (counts_in section_kind.Export counts n) bytes n
-  counted_out count section_kind.Start counts bytes n = listed_out section_kind.Start (counts_in section_kind.Start counts n) bytes n
-  counted_out count section_kind.Element counts bytes n = listed_out section_kind.Element (counts_in section_kind.Element counts n) bytes n
-  counted_out count section_kind.Segment counts bytes n = listed_out section_kind.Segment (counts_in section_kind.Segment counts n) bytes n
+  counted_out : (count : P (machine.Refused why.CodeCount)) (segments : P (machine.Refused why.DataCount)) → (of : SectionKind) (counts : Counts) (bytes n : ℕ) → P (machine_after_paired_count of counts bytes n)
+  counted_out count segments section_kind.Function counts bytes n = listed_out section_kind.Function (counts_in section_kind.Function counts n) bytes n
+  counted_out count segments section_kind.Code counts bytes n = cond_both (nat_eq n counts.functions) _ _ P (λ _. listed_out section_kind.Code (counts_in section_kind.Code counts n) bytes n) (λ _. count)
+  counted_out count segments section_kind.Type counts bytes n = listed_out section_kind.Type (counts_in section_kind.Type counts n) bytes n
+  counted_out count segments section_kind.Import counts bytes n = listed_out section_kind.Import (counts_in section_kind.Import counts n) bytes n
+  counted_out count segments section_kind.Table counts bytes n = listed_out section_kind.Table (counts_in section_kind.Table counts n) bytes n
+  counted_out count segments section_kind.Memory counts bytes n = listed_out section_kind.Memory (counts_in section_kind.Memory counts n) bytes n
+  counted_out count segments section_kind.Global counts bytes n = listed_out section_kind.Global (counts_in section_kind.Global counts n) bytes n
+  counted_out count segments section_kind.Export counts bytes n = listed_out section_kind.Export (counts_in section_kind.Export counts n) bytes n
+  counted_out count segments section_kind.Start counts bytes n = listed_out section_kind.Start (counts_in section_kind.Start counts n) bytes n
+  counted_out count segments section_kind.Element counts bytes n = listed_out section_kind.Element (counts_in section_kind.Element counts n) bytes n
+  counted_out count segments section_kind.DataCount counts bytes n = listed_out section_kind.DataCount (counts_in section_kind.DataCount counts n) bytes zero
+  counted_out count segments section_kind.Segment counts bytes n = cond_both (is_given counts.segments n) _ _ P (λ _. listed_out section_kind.Segment (counts_in section_kind.Segment counts n) bytes n) (λ _. segments)
 
   pub more_out : (of : SectionKind) (counts : Counts) (more : ℕ) (r : Partial) → P (count_more of counts more r).0
   more_out of counts zero r = end
   more_out of counts (suc n) r = live (machine.Count of counts n r) tt
 
-  pub count_out : (count : P (machine.Refused why.CodeCount)) → (of : SectionKind) (counts : Counts) (more : ℕ) (q : Step ℕ × Partial) → P (after_count of counts more q).0
-  count_out count of counts more (More, r) = more_out of counts more r
-  count_out count of counts more (Done n, r) = counted_out count of counts more n
-  count_out count of counts more (Bad, r) = number
+  pub count_out : (count : P (machine.Refused why.CodeCount)) (segments : P (machine.Refused why.DataCount)) → (of : SectionKind) (counts : Counts) (more : ℕ) (q : Step ℕ × Partial) → P (after_count of counts more q).0
+  count_out count segments of counts more (More, r) = more_out of counts more r
+  count_out count segments of counts more (Done n, r) = counted_out count segments of counts more n
+  count_out count segments of counts more (Bad, r) = number
 
   pub begun_out : (count : P (machine.Refused why.CodeCount)) → (of : SectionKind) (counts : Counts) → P (begun_section of counts).0
   begun_out count section_kind.Segment counts = at_last counts.functions
@@ -120,6 +122,7 @@ module _ (P : Machine → Type 0) (live : (m : Machine) → IsLive m → P m) (e
   begun_out count section_kind.Export counts = live (machine.Size section_kind.Export counts fresh) tt
   begun_out count section_kind.Start counts = live (machine.Size section_kind.Start counts fresh) tt
   begun_out count section_kind.Element counts = live (machine.Size section_kind.Element counts fresh) tt
+  begun_out count section_kind.DataCount counts = live (machine.Size section_kind.DataCount counts fresh) tt
   begun_out count section_kind.Code counts = live (machine.Size section_kind.Code counts fresh) tt
 
   sized_out : (of : SectionKind) (counts : Counts) (more : ℕ) → P (machine_in_contents of counts more)
@@ -132,6 +135,7 @@ module _ (P : Machine → Type 0) (live : (m : Machine) → IsLive m → P m) (e
   sized_out section_kind.Global counts more = live (machine.Count section_kind.Global counts more fresh) tt
   sized_out section_kind.Export counts more = live (machine.Count section_kind.Export counts more fresh) tt
   sized_out section_kind.Element counts more = live (machine.Count section_kind.Element counts more fresh) tt
+  sized_out section_kind.DataCount counts more = live (machine.Count section_kind.DataCount counts more fresh) tt
   sized_out section_kind.Code counts more = live (machine.Count section_kind.Code counts more fresh) tt
   sized_out section_kind.Segment counts more = live (machine.Count section_kind.Segment counts more fresh) tt
 
@@ -156,24 +160,24 @@ module _ (P : Machine → Type 0) (live : (m : Machine) → IsLive m → P m) (e
   step_in p (machine.Refused w) c i k a b = absurd i
 
 module _ (P : Machine → Type 0) (live : (m : Machine) → IsLive m → P m) (end : P (machine.Refused why.SectionEnd)) (number : P (machine.Refused why.BadNumber))
-    (id : P (machine.Refused why.SectionId)) (order : P (machine.Refused why.SectionOrder)) (count : P (machine.Refused why.CodeCount)) where
-  rising_out : (last : ℕ) (counts : Counts) (i : ℕ) (of : Option SectionKind) → P (machine_if_rising last counts i of).0
-  rising_out last counts i None = id
-  rising_out last counts i (Some of) = cond_both (nat_le i last) _ _ (λ (q : Machine × Event). P q.0) (λ _. order) (λ _. begun_out P live end number count of counts)
+    (id : P (machine.Refused why.SectionId)) (order : P (machine.Refused why.SectionOrder)) (count : P (machine.Refused why.CodeCount)) (segments : P (machine.Refused why.DataCount)) where
+  rising_out : (last : ℕ) (counts : Counts) (of : Option SectionKind) → P (machine_if_rising last counts of).0
+  rising_out last counts None = id
+  rising_out last counts (Some of) = cond_both (nat_le (rank_of of) last) _ _ (λ (q : Machine × Event). P q.0) (λ _. order) (λ _. begun_out P live end number count of counts)
 
-  start_out : (last : ℕ) (counts : Counts) (c : ℕ) → P (section_start last counts c).0
-  start_out last counts zero = live (machine.CustomSize last counts fresh) tt
-  start_out last counts (suc m) = rising_out last counts (suc m) (section_kind_of (suc m))
+  start_out : (p : Profile) (last : ℕ) (counts : Counts) (c : ℕ) → P (section_start p last counts c).0
+  start_out p last counts zero = live (machine.CustomSize last counts fresh) tt
+  start_out p last counts (suc m) = rising_out last counts (section_kind_of p (suc m))
 
   pub step_at : (p : Profile) (m : Machine) (c : ℕ) → (IsHeader m → ⊥) → ((w : Why) → m ≡ machine.Refused w → P (machine.Refused w))
       → ((q : InCustom) (w : Why) → (custom_step q c).0 ≡ custom.Failed w → P (machine.Refused w)) → ((of : SectionKind) (counts : Counts) (more left : ℕ) (q : InMember) (w : Why) → m ≡ machine.Section of counts more left q → (member_step p q c).0 ≡ at.Failed w → P (machine.Refused w)) → P (step_of p m c).0
   step_at p (machine.Header n) c past same a b = absurd (past tt)
-  step_at p (machine.Between last counts) c past same a b = start_out last counts c
-  step_at p (machine.CustomSize last counts r) c past same a b = step_in P live end number p (machine.CustomSize last counts r) c tt (λ of counts more r s. count_out P live end number count of counts more (unsigned_push 32 r c)) a b
-  step_at p (machine.Custom last counts more q) c past same a b = step_in P live end number p (machine.Custom last counts more q) c tt (λ of counts more r s. count_out P live end number count of counts more (unsigned_push 32 r c)) a b
-  step_at p (machine.Size of counts r) c past same a b = step_in P live end number p (machine.Size of counts r) c tt (λ of counts more r s. count_out P live end number count of counts more (unsigned_push 32 r c)) a b
-  step_at p (machine.Count of counts more r) c past same a b = step_in P live end number p (machine.Count of counts more r) c tt (λ of counts more r s. count_out P live end number count of counts more (unsigned_push 32 r c)) a b
-  step_at p (machine.Section of counts more left q) c past same a b = step_in P live end number p (machine.Section of counts more left q) c tt (λ of counts more r s. count_out P live end number count of counts more (unsigned_push 32 r c)) a b
+  step_at p (machine.Between last counts) c past same a b = start_out p last counts c
+  step_at p (machine.CustomSize last counts r) c past same a b = step_in P live end number p (machine.CustomSize last counts r) c tt (λ of counts more r s. count_out P live end number count segments of counts more (unsigned_push 32 r c)) a b
+  step_at p (machine.Custom last counts more q) c past same a b = step_in P live end number p (machine.Custom last counts more q) c tt (λ of counts more r s. count_out P live end number count segments of counts more (unsigned_push 32 r c)) a b
+  step_at p (machine.Size of counts r) c past same a b = step_in P live end number p (machine.Size of counts r) c tt (λ of counts more r s. count_out P live end number count segments of counts more (unsigned_push 32 r c)) a b
+  step_at p (machine.Count of counts more r) c past same a b = step_in P live end number p (machine.Count of counts more r) c tt (λ of counts more r s. count_out P live end number count segments of counts more (unsigned_push 32 r c)) a b
+  step_at p (machine.Section of counts more left q) c past same a b = step_in P live end number p (machine.Section of counts more left q) c tt (λ of counts more r s. count_out P live end number count segments of counts more (unsigned_push 32 r c)) a b
   step_at p (machine.Refused w) c past same a b = same w refl
 
   pub step_out : (p : Profile) (m : Machine) (c : ℕ) → (IsHeader m → ⊥) → ((w : Why) → m ≡ machine.Refused w → P (machine.Refused w))

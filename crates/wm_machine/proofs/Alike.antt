@@ -1,5 +1,5 @@
 -- If a second sink never refuses an item that the first one takes, the decoder answers as over the first one alone.
-use Rattle.std.proofs.Common.{◌≡◌, ℕ, zero, suc, ◌+◌, Bool, true, false, cond, List, [], ◌∷◌, ◌++◌, Result, Ok, Err, refl, sym, ◌∙◌, ap, subst, nat_lt}
+use Rattle.std.proofs.Common.{◌≡◌, ℕ, zero, suc, ◌+◌, Bool, true, false, cond, List, [], ◌∷◌, ◌++◌, Option, Some, None, Result, Ok, Err, refl, sym, ◌∙◌, ap, subst, nat_lt}
 use Rattle.std.specs.Str.{is_utf8}
 use Rattle.std.proofs.lemmas.Str.{is_utf8-from_IsUtf8}
 use Rattle.wm_syntax.specs.declared.profile.Profile.{Profile}
@@ -131,11 +131,13 @@ module _ {H K : Type 0} (f : H → Item → Result H Why) (g : K → Item → Re
   EndAlike _ _ = ⊥
 
   ended_alike : (m : Machine) (h : H) (q : H × K) (n : ℕ) → q.0 ≡ h → EndAlike (answer_at_end_of m h n) (answer_at_end_of m q n)
-  ended_alike (machine.Between last counts) h q n e = between counts.functions
+  ended_alike (machine.Between last counts) h q n e = between counts.functions counts.segments
     where
-      between : (f : ℕ) → EndAlike (answer_between f h n) (answer_between f q n)
-      between zero = e
-      between (suc f) = refl
+      between : (f : ℕ) (s : Option ℕ) → EndAlike (answer_between f s h n) (answer_between f s q n)
+      between (suc f) s = refl
+      between zero None = e
+      between zero (Some zero) = e
+      between zero (Some (suc s)) = refl
   ended_alike (machine.Refused w) h q n e = refl
   ended_alike m h q n e = refl
 

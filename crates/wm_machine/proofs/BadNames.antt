@@ -1,5 +1,9 @@
 -- BadUtf8 is given at the last byte of a name that is not UTF-8.
 use Rattle.std.proofs.Common.{◌≡◌, ℕ, zero, suc, ◌+◌, ◌<◌, ◌^◌, List, [], ◌∷◌, ◌++◌, Option, Some, None, Result, Ok, Err, IsUtf8, true, false, length, refl, sym, ◌∙◌, ap, subst, arith, nat_eq, nat_lt, nat_le, append_assoc, append-nil, length-append}
+use Rattle.wm_syntax.specs.Profiles.{has}
+use Rattle.wm_syntax.specs.declared.profile.Feature.TheVariants.{BulkMemory}
+use Rattle.wm_machine.proofs.SegmentStarts.{unfinished_any, begun_any}
+use Rattle.wm_machine.specs.exact.MemberSteps.{segment_begun, segment_unfinished}
 use Rattle.std.proofs.lemmas.Bool.{cond_both}
 use Rattle.std.proofs.lemmas.Str.{is_utf8-from_IsUtf8}
 use Rattle.std.specs.Prelude.{slice_index}
@@ -47,11 +51,11 @@ use Rattle.wm_machine.specs.MarkedForms.{MarkedForm, Then, Filled, name_byte_mar
 use Rattle.wm_machine.specs.Sections.{header}
 use Rattle.wm_machine.specs.Grammar.{loose, strict}
 use Rattle.wm_machine.specs.Meanings.{BadName, IsName, MustStand}
-use Rattle.wm_machine.specs.exact.Members.{section_kind_of, member_at_start}
+use Rattle.wm_machine.specs.exact.Members.{rank_of, section_kind_of, member_at_start}
 use Rattle.wm_machine.specs.exact.ValueSteps.{value_type_of, global_type_push, value_push}
 use Rattle.wm_machine.specs.exact.ExpressionSteps.{start, expression_step}
 use Rattle.wm_machine.specs.exact.MemberSteps.{on_number, on_value, on_type, with_item_given, after_param, after_result, after_name, after_length, functions_or_over, index_item, after_index, after_constant, op_event, data_or_over, list_or_over, entry_step, member_in_entry, member_step}
-use Rattle.wm_machine.specs.exact.Steps.{counts_in, begun_last, custom_after_length, machine_in_custom, machine_in_member, machine_after_count, machine_after_paired_count, after_count, begun_section, machine_if_rising, section_start, machine_in_contents, after_size, custom_size, header_step, step_of}
+use Rattle.wm_machine.specs.exact.Steps.{counts_in, is_given, begun_last, custom_after_length, machine_in_custom, machine_in_member, machine_after_count, machine_after_paired_count, count_event, after_count, begun_section, machine_if_rising, section_start, machine_in_contents, after_size, custom_size, header_step, step_of}
 use Rattle.wm_machine.specs.exact.Runs.{name_item, byte_read, ByteRead, MachineState, zone_of, after_byte, state_after, state_at_start}
 use Rattle.wm_machine.proofs.ByteLists.{front_bytes}
 use Rattle.wm_machine.proofs.EntryBytes.{OnlyParts, entry_parts}
@@ -153,6 +157,7 @@ index_none index.Segment = tt
 constant_none : (of : ConstantOf) (e : InExpression) → NoneBegun (after_constant of e)
 constant_none constant.Global expression.Over = tt
 constant_none constant.Element expression.Over = tt
+constant_none constant.IndexedElement expression.Over = tt
 constant_none constant.Segment expression.Over = tt
 constant_none of (expression.Failed w) = tt
 constant_none of (expression.Op depth q) = tt
@@ -179,6 +184,7 @@ start_none section_kind.Global = tt
 start_none section_kind.Export = refl
 start_none section_kind.Start = tt
 start_none section_kind.Element = tt
+start_none section_kind.DataCount = tt
 start_none section_kind.Code = tt
 start_none section_kind.Segment = tt
 
@@ -201,6 +207,10 @@ member_passes p c (at.Name of more) i = absurd i
 member_passes p c (at.Value v) i = value_passes NoneBegun (value_push p v c) at.Value (λ q. with_item_given at.Over q) at.Failed (λ s. tt) (λ x. (tt, tt)) (λ w. tt)
 member_passes p c (at.Index of r) i =
     number_passes NoneBegun (unsigned_push 32 r c) (λ s. at.Index of s) (λ n. with_item_given (after_index of) (index_item of n)) at.Failed (λ s. tt) (λ n. (index_none of, tt)) tt
+member_passes p c (at.SegmentStart of r) i =
+    number_passes NoneBegun (unsigned_push 32 r c) (segment_unfinished (has p BulkMemory) of) (segment_begun (has p BulkMemory) of) at.Failed (λ s. unfinished_any NoneBegun (has p BulkMemory) of s tt tt)
+    (begun_any MemberPasses (λ n. (tt, tt)) (tt, tt) (tt, tt) (λ n. (tt, tt)) (tt, tt) (tt, tt) (tt, tt) (has p BulkMemory) of) tt
+member_passes p c at.ElementKind i = cond_both (nat_eq c 0x00) _ _ MemberPasses (λ _. (tt, tt)) (λ _. (tt, tt))
 member_passes p c (at.GlobalType g) i = value_passes NoneBegun (global_type_push p g c) at.GlobalType (λ t. with_item_given (at.Constant constant.Global start) (plain.Global t)) at.Failed (λ s. tt) (λ x. (tt, tt)) (λ w. tt)
 member_passes p c (at.Constant of e) i = (constant_none of (expression_step p e c).0, op_no plain.ConstOp (expression_step p e c).1)
 member_passes p c (at.Length of r) i = number_passes NoneBegun (unsigned_push 32 r c) (λ s. at.Length of s) (λ n. (list_or_over of n, event.Nothing)) at.Failed (λ s. tt) (λ n. (list_none of n, tt)) tt
@@ -228,6 +238,8 @@ listed_none of counts bytes (suc n) = framed_none of counts bytes n (member_at_s
 paired_none : (of : SectionKind) (counts : Counts) (bytes n : ℕ) → NoneBegunIn (machine_after_paired_count of counts bytes n)
 paired_none section_kind.Function counts bytes n = listed_none section_kind.Function (counts_in section_kind.Function counts n) bytes n
 paired_none section_kind.Code counts bytes n = cond_both (nat_eq n counts.functions) _ _ NoneBegunIn (λ _. listed_none section_kind.Code (counts_in section_kind.Code counts n) bytes n) (λ _. tt)
+paired_none section_kind.DataCount counts bytes n = listed_none section_kind.DataCount (counts_in section_kind.DataCount counts n) bytes zero
+paired_none section_kind.Segment counts bytes n = cond_both (is_given counts.segments n) _ _ NoneBegunIn (λ _. listed_none section_kind.Segment (counts_in section_kind.Segment counts n) bytes n) (λ _. tt)
 paired_none of counts bytes n = listed_none of (counts_in of counts n) bytes n
 
 contents_none : (of : SectionKind) (counts : Counts) (more : ℕ) → NoneBegunIn (machine_in_contents of counts more)
@@ -257,13 +269,13 @@ begun_passes section_kind.Segment counts = at_last counts.functions
     at_last (suc n) = (tt, tt)
 begun_passes of counts = (tt, tt)
 
-rising_passes : (last : ℕ) (counts : Counts) (id : ℕ) (q : Option SectionKind) → MachinePasses (machine_if_rising last counts id q)
-rising_passes last counts id None = (tt, tt)
-rising_passes last counts id (Some of) = cond_both (nat_le id last) _ _ MachinePasses (λ _. (tt, tt)) (λ _. begun_passes of counts)
+rising_passes : (last : ℕ) (counts : Counts) (q : Option SectionKind) → MachinePasses (machine_if_rising last counts q)
+rising_passes last counts None = (tt, tt)
+rising_passes last counts (Some of) = cond_both (nat_le (rank_of of) last) _ _ MachinePasses (λ _. (tt, tt)) (λ _. begun_passes of counts)
 
-starts_passes : (last : ℕ) (counts : Counts) (c : ℕ) → MachinePasses (section_start last counts c)
-starts_passes last counts zero = (tt, tt)
-starts_passes last counts (suc m) = rising_passes last counts (suc m) (section_kind_of (suc m))
+starts_passes : (p : Profile) (last : ℕ) (counts : Counts) (c : ℕ) → MachinePasses (section_start p last counts c)
+starts_passes p last counts zero = (tt, tt)
+starts_passes p last counts (suc m) = rising_passes last counts (section_kind_of p (suc m))
 
 header_passes : (n c : ℕ) → MachinePasses (header_step n c)
 header_passes n c =
@@ -277,7 +289,11 @@ header_passes n c =
 count_passes : (of : SectionKind) (counts : Counts) (more : ℕ) (q : Step ℕ × Partial) → MachinePasses (after_count of counts more q)
 count_passes of counts zero (step.More, s) = (tt, tt)
 count_passes of counts (suc n) (step.More, s) = (tt, tt)
-count_passes of counts more (step.Done n, s) = (paired_none of counts more n, tt)
+count_passes of counts more (step.Done n, s) = (paired_none of counts more n, count_no of n)
+  where
+    count_no : (of : SectionKind) (n : ℕ) → NoName (count_event of n)
+    count_no section_kind.DataCount n = tt
+    count_no of n = tt
 count_passes of counts more (step.Bad, s) = (tt, tt)
 
 abbrev IsElsewhere : Machine → Type 0
@@ -288,7 +304,7 @@ IsElsewhere m = Unit {0}
 
 step_passes : (p : Profile) (m : Machine) (c : ℕ) → IsElsewhere m → MachinePasses (step_of p m c)
 step_passes p (machine.Header n) c i = header_passes n c
-step_passes p (machine.Between last counts) c i = starts_passes last counts c
+step_passes p (machine.Between last counts) c i = starts_passes p last counts c
 step_passes p (machine.CustomSize last counts r) c i =
     number_passes NoneBegunIn (unsigned_push 32 r c) (λ s. machine.CustomSize last counts s) (λ n. (custom_size last counts n, event.Nothing)) machine.Refused (λ s. tt) (λ n. (custom_none last counts n, tt)) tt
 step_passes p (machine.Custom last counts more (custom.Length r)) c i = absurd i

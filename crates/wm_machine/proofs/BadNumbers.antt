@@ -1,5 +1,9 @@
 -- BadNumber is given at a byte with which no integer continues, where one has begun and its rest is required.
 use Rattle.std.proofs.Common.{◌≡◌, ◌≢◌, ℕ, zero, suc, ◌+◌, ◌-◌, ◌<◌, ◌^◌, ◌⊎◌, inl, inr, Bool, true, false, List, [], ◌∷◌, ◌++◌, Option, Some, None, Result, ℤ, pos, refl, sym, ◌∙◌, ap, subst, arith, nat_eq, nat_lt, nat_le, append_assoc, append-nil}
+use Rattle.wm_machine.specs.exact.MemberSteps.{segment_begun, segment_unfinished}
+use Rattle.std.proofs.lemmas.Bool.{leb-true, leb-false}
+use Rattle.std.proofs.Common.{◌≤◌}
+use Rattle.wm_syntax.specs.declared.profile.Feature.TheVariants.{BulkMemory}
 use Rattle.std.proofs.lemmas.Bool.{cond_both, eqb-false, eqb-true}
 use Rattle.std.specs.Prelude.{◌==◌, IsTrue, if◌then◌else◌, slice_index}
 use Rattle.std.specs.Str.{is_utf8}
@@ -25,8 +29,8 @@ use Rattle.wm_syntax.specs.declared.why.Why.{Why}
 use Rattle.wm_syntax.specs.declared.why.Why.TheVariants as why
 use Rattle.wm_machine.specs.declared.step.reading.Reading.{Reading}
 use Rattle.wm_machine.specs.declared.step.reading.Reading.TheVariants.{More, Done, Bad}
-use Rattle.wm_machine.specs.declared.step.ops.BlockOp.{BlockOp}
-use Rattle.wm_machine.specs.declared.step.ops.MemoryOp.TheVariants as memory
+use Rattle.wm_syntax.specs.declared.instructions.op_class.BlockOp.{BlockOp}
+use Rattle.wm_syntax.specs.declared.instructions.op_class.MemoryOp.TheVariants as memory
 use Rattle.wm_machine.specs.declared.step.ops.InOp.{InOp}
 use Rattle.wm_machine.specs.declared.step.ops.InOp.TheVariants as in_op
 use Rattle.wm_machine.specs.declared.step.values.InLimits.{InLimits}
@@ -46,9 +50,10 @@ use Rattle.wm_machine.specs.declared.step.values.InValue.TheVariants as value
 use Rattle.wm_machine.specs.declared.step.expressions.InExpression.{InExpression}
 use Rattle.wm_machine.specs.declared.step.expressions.InExpression.TheVariants as expression
 use Rattle.wm_machine.specs.declared.machine.Plain.TheVariants as plain
-use Rattle.wm_machine.specs.Meanings.{Integer, u32, u32_zero, s32, s64, spells, goes_on, CanGoOn, MustStand, WrongNumber}
+use Rattle.wm_machine.specs.Meanings.{Integer, u32, u32_zero, u32_flag, s32, s64, spells, goes_on, CanGoOn, MustStand, WrongNumber}
 use Rattle.wm_machine.specs.exact.ValueSteps.{read_number, map_reading, after_min, limits_push, table_type_push, type_under, value_type_of, read_type, global_type_push, desc_push, target_push, run_push, value_push}
-use Rattle.wm_machine.specs.exact.OpSteps.{block_op, float_32_step, float_64_step, index_op, call_op, memory_op, const_32_op, const_64_op, on_answer, immediates, class_step, begin_step, padded, code_step, more_padding, padding_step, block_step, first_zero_step, closing_step, long_step, table_step, op_push}
+use Rattle.wm_machine.specs.exact.OpSteps.{float_32_step, float_64_step, call_op, init_op, const_32_op, const_64_op, on_answer, immediates, class_step, begin_step, padded, code_step, more_padding, padding_step, block_step, first_zero_step, closing_step, long_step, table_step, op_push}
+use Rattle.wm_syntax.specs.exact.OpShapes.{block_op, index_op, memory_op}
 use Rattle.wm_machine.specs.exact.ExpressionSteps.{start, ends as op_ends, after_op, after_label, after_reading, expression_failed, expression_step}
 use Rattle.wm_machine.proofs.OpRest.{at_offset}
 use Rattle.std.proofs.Common.{◌↔◌}
@@ -79,9 +84,9 @@ use Rattle.wm_machine.specs.declared.machine.member.InMember.TheVariants as at
 use Rattle.wm_machine.specs.Items.{Zone, Marks}
 use Rattle.wm_machine.specs.Sections.{header}
 use Rattle.wm_machine.specs.Grammar.{strict}
-use Rattle.wm_machine.specs.exact.Members.{section_kind_of, member_at_start}
+use Rattle.wm_machine.specs.exact.Members.{rank_of, section_kind_of, member_at_start}
 use Rattle.wm_machine.specs.exact.MemberSteps.{on_number, on_value, on_type, with_item_given, after_param, after_result, after_name, after_length, name_step, functions_or_over, index_item, after_index, constant_over, after_constant, data_or_over, list_or_over, runs_or_body, entry_after_op, entry_step, member_in_entry, member_step}
-use Rattle.wm_machine.specs.exact.Steps.{counts_in, begun_last, custom_after_length, machine_in_custom, custom_step, machine_in_member, machine_after_count, machine_after_paired_count, after_count, begun_section, machine_if_rising, section_start, machine_in_contents, after_size, custom_size, header_step, step_of}
+use Rattle.wm_machine.specs.exact.Steps.{counts_in, is_given, begun_last, custom_after_length, machine_in_custom, custom_step, machine_in_member, machine_after_count, machine_after_paired_count, after_count, begun_section, machine_if_rising, section_start, machine_in_contents, after_size, custom_size, header_step, step_of}
 use Rattle.wm_machine.specs.exact.Runs.{byte_read, ByteRead, MachineState, zone_of, after_byte, state_after, marks, state_at_start}
 use Rattle.wm_machine.specs.exact.Live.{IsRefused}
 use Rattle.wm_machine.proofs.Numbers.{NumberNext, number_next}
@@ -91,16 +96,23 @@ use Rattle.wm_machine.proofs.WholeMachine.{MayEnd, MachineRest, machine_follows,
 use Rattle.wm_machine.proofs.Fronts.{is_front}
 use Rattle.wm_machine.proofs.OpSound.{HasRoom, RoomAfter, fresh_room, unsigned_room, signed_room, last_byte, last_signed_byte}
 use Rattle.wm_machine.proofs.WrongMembers.{can_stand}
-use Rattle.wm_machine.proofs.NumbersAtHand.{Num, at_zeros, num_op, num_limits, num_table, num_global, num_desc, num_target, num_run, num_value, num_expression, num_entry, num_member, num_custom, num_machine, RestOf, Rests, number_can}
+use Rattle.wm_machine.proofs.NumbersAtHand.{Num, at_zeros, front_number, num_op, num_limits, num_table, num_global, num_desc, num_target, num_run, num_value, num_expression, num_entry, num_member, num_custom, num_machine, RestOf, Rests, number_can}
 use Rattle.wm_machine.proofs.SpelledBytes.{whole_bytes}
 use Rattle.wm_machine.proofs.FramedBytes.{Numbers, numbers}
-use Rattle.wm_syntax.specs.declared.profile.Feature.TheVariants.{LongIndex}
 use Rattle.wm_machine.proofs.TableIndex.{Zeros, bool_cases, no_zeros, one_zero, spelled_zeros, zeros_off, zeros_on, zeros_spell}
+use Rattle.wm_machine.specs.declared.step.ops.TableOp.{TableOp}
+use Rattle.wm_machine.specs.declared.step.ops.TableOp.TheVariants as table_at
+use Rattle.wm_machine.specs.exact.OpSteps.{init_table_op, copy_table_op, table_feature, after_table}
+use Rattle.wm_syntax.specs.declared.profile.Feature.{Feature}
+use Rattle.wm_machine.specs.declared.machine.member.SegmentKind.{SegmentKind}
+use Rattle.wm_machine.specs.declared.machine.member.SegmentKind.TheVariants as segments
+use Rattle.wm_machine.specs.exact.MemberSteps.{active_begun, passive_begun}
 
 -- before the first byte of a number
 abbrev at_first : Integer → Partial
 at_first u32 = fresh
-at_first u32_zero = at_zeros 4
+at_first (u32_zero f) = at_zeros 4
+at_first u32_flag = fresh
 at_first s32 = fresh
 at_first s64 = fresh
 
@@ -115,6 +127,15 @@ zero_on (suc left) c = if c == 0x80 then (step.More, at_zeros left) else (step.B
 
 abbrev zero_push : Partial → ℕ → Step ℕ × Partial
 zero_push r c = if c == 0x00 then (step.Done 0, fresh) else zero_on r.low c
+
+-- a byte of a flag
+abbrev only_if : Bool → Step ℕ × Partial → Step ℕ × Partial
+only_if small q = if small then q else (step.Bad, q.1)
+
+abbrev flag_only : Step ℕ × Partial → Step ℕ × Partial
+flag_only (step.More, s) = only_if (nat_le s.low 2) (step.More, s)
+flag_only (step.Done n, s) = only_if (nat_le n 2) (step.Done n, s)
+flag_only (step.Bad, s) = (step.Bad, s)
 
 -- The effect of a byte on a state. Outside a number, the byte is refused with another name, or a number may begin.
 -- Inside a number, it continues the number, unless a size refuses it.
@@ -133,7 +154,8 @@ module _ {M : Type 0} (fail : Why → M) (num : M → Num) where
   abbrev Law : Num → ℕ → M → Type 0
   Law None c x = Settled x
   Law (Some (u32, r)) c x = Pushed u32 (unsigned_push 32 r c) x
-  Law (Some (u32_zero, r)) c x = Pushed u32_zero (zero_push r c) x
+  Law (Some (u32_zero f, r)) c x = Pushed (u32_zero f) (zero_push r c) x
+  Law (Some (u32_flag, r)) c x = Pushed u32_flag (flag_only (unsigned_push 32 r c)) x
   Law (Some (s32, r)) c x = Pushed s32 (signed_push 32 r c) x
   Law (Some (s64, r)) c x = Pushed s64 (signed_push 64 r c) x
 
@@ -150,7 +172,8 @@ module _ {M N : Type 0} (fail : Why → M) (num : M → Num) (refuse : Why → N
   lift : (n : Num) (c : ℕ) (x : M) → Law fail num n c x → Law refuse outer n c (f x)
   lift None c x h = new x h
   lift (Some (u32, r)) c x h = lift_push u32 (unsigned_push 32 r c) x h
-  lift (Some (u32_zero, r)) c x h = lift_push u32_zero (zero_push r c) x h
+  lift (Some (u32_zero i, r)) c x h = lift_push (u32_zero i) (zero_push r c) x h
+  lift (Some (u32_flag, r)) c x h = lift_push u32_flag (flag_only (unsigned_push 32 r c)) x h
   lift (Some (s32, r)) c x h = lift_push s32 (signed_push 32 r c) x h
   lift (Some (s64, r)) c x h = lift_push s64 (signed_push 64 r c) x h
 
@@ -299,15 +322,20 @@ module _ {M : Type 0} (fail : Why → M) (num : M → Num) where
     on_value_law = lift {M = Reading R X} {N = M} Bad (num_reading inner) fail num heard (λ w. refl) heard_keeps heard_new
 
 module _ (p : Profile) where
-  -- ops
+  -- ops: a table index is a number where it may be long
+  table_new : (t : TableOp) → IsNew (num_op p (in_op.Table t 4))
+  table_new t = elim (bool_cases (has p (table_feature t))) [
+    | inl y ↦ subst (λ (b : Bool). IsNew (if b then Some (u32_zero (table_feature t), at_zeros 4) else None)) (sym y) refl
+    | inr k ↦ subst (λ (b : Bool). IsNew (if b then Some (u32_zero (table_feature t), at_zeros 4) else None)) (sym k) tt
+  ]
+
   immediates_new : (kind : Immediates) → IsNew (num_op p (immediates kind))
-  immediates_new k.Block = tt
-  immediates_new k.Loop = tt
-  immediates_new k.If = tt
-  immediates_new k.MemorySize = tt
-  immediates_new k.MemoryGrow = tt
-  immediates_new k.MemoryCopy = tt
-  immediates_new k.MemoryFill = tt
+  immediates_new (k.Block o) = tt
+  immediates_new (k.Memory memory.MemorySize) = tt
+  immediates_new (k.Memory memory.MemoryGrow) = tt
+  immediates_new (k.Memory memory.MemoryCopy) = tt
+  immediates_new (k.Memory memory.MemoryFill) = tt
+  immediates_new k.TableCopy = table_new table_at.CopyTo
   immediates_new k.F32Const = tt
   immediates_new k.F64Const = tt
   immediates_new _ = refl
@@ -347,7 +375,7 @@ module _ (p : Profile) where
   padding_law n left c = cond_both (nat_eq c 0x00) _ _ OpNew (λ _. class_law (class_under p (0x100 + n))) (λ _. more_law n left c)
 
   first_zero_law : (c : ℕ) → OpNew (first_zero_step c)
-  first_zero_law c = cond_both (nat_eq c 0x00) _ _ OpNew (λ _. new_more (num_op p) (in_op.Memory memory.Copy) tt) (λ _. new_byte (num_op p))
+  first_zero_law c = cond_both (nat_eq c 0x00) _ _ OpNew (λ _. new_more (num_op p) (in_op.Memory memory.MemoryCopy) tt) (λ _. new_byte (num_op p))
 
   block_law : (i : BlockOp) (c : ℕ) → OpNew (block_step p i c)
   block_law i c = cond_both (nat_eq c 0x40) _ _ OpNew (λ _. new_done (num_op p) _) (λ _. type_law (num_op p) p c (λ t. Done (block_op i (Some t))) (λ t. new_done (num_op p) _))
@@ -363,39 +391,38 @@ module _ (p : Profile) where
   closing_law : (o : Op) (c : ℕ) → OpNew (closing_step o c)
   closing_law o c = cond_both (nat_eq c 0x00) _ _ OpNew (λ _. new_done (num_op p) o) (λ _. new_byte (num_op p))
 
-  -- the table index, which is a number where indices may be long
-  table_new : IsNew (num_op p (in_op.CallTable 0 4))
-  table_new = elim (bool_cases (has p LongIndex)) [
-    | inl y ↦ subst (λ (b : Bool). IsNew (if b then Some (u32_zero, at_zeros 4) else None)) (sym y) refl
-    | inr k ↦ subst (λ (b : Bool). IsNew (if b then Some (u32_zero, at_zeros 4) else None)) (sym k) tt
-  ]
+  after_law : (t : TableOp) → OpNew (after_table t)
+  after_law (table_at.Call n) = new_done (num_op p) (call_op n)
+  after_law (table_at.Init n) = new_done (num_op p) (init_table_op n)
+  after_law table_at.CopyTo = new_more (num_op p) (in_op.Table table_at.CopyFrom 4) (table_new table_at.CopyFrom)
+  after_law table_at.CopyFrom = new_done (num_op p) copy_table_op
 
-  abbrev ZeroLaw : Step ℕ × Partial → Reading InOp Op → Type 0
-  ZeroLaw = Pushed {M = Reading InOp Op} Bad (num_reading (num_op p)) u32_zero
+  module _ (t : TableOp) (c : ℕ) where
+    abbrev ZeroLaw : Step ℕ × Partial → Reading InOp Op → Type 0
+    ZeroLaw = Pushed {M = Reading InOp Op} Bad (num_reading (num_op p)) (u32_zero (table_feature t))
 
-  module _ (n c : ℕ) (y : IsTrue (has p LongIndex)) where
-    long_on : (left : ℕ) → ZeroLaw (zero_on left c) (long_step n left c)
-    long_on zero = refl
-    long_on (suc left) = go (nat_eq c 0x80)
+    long_on : IsTrue (has p (table_feature t)) → (left : ℕ) → ZeroLaw (zero_on left c) (long_step t left c)
+    long_on y zero = refl
+    long_on y (suc left) = go (nat_eq c 0x80)
       where
-        go : (b : Bool) → ZeroLaw (if b then (step.More, at_zeros left) else (step.Bad, fresh)) (if b then More (in_op.CallTable n left) else Bad why.BadNumber)
-        go true = inl (ap (λ (b : Bool). if b then Some (u32_zero, at_zeros left) else None) y, λ e. cc)
+        go : (b : Bool) → ZeroLaw (if b then (step.More, at_zeros left) else (step.Bad, fresh)) (if b then More (in_op.Table t left) else Bad why.BadNumber)
+        go true = inl (ap (λ (b : Bool). if b then Some (u32_zero (table_feature t), at_zeros left) else None) y, λ e. cc)
         go false = refl
 
-    long_law : (left : ℕ) → ZeroLaw (zero_push (at_zeros left) c) (if c == 0x00 then Done (call_op n) else long_step n left c)
-    long_law left = go (nat_eq c 0x00)
+    long_law : IsTrue (has p (table_feature t)) → (left : ℕ) → ZeroLaw (zero_push (at_zeros left) c) (if c == 0x00 then after_table t else long_step t left c)
+    long_law y left = go (nat_eq c 0x00)
       where
-        go : (b : Bool) → ZeroLaw (if b then (step.Done 0, fresh) else zero_on left c) (if b then Done (call_op n) else long_step n left c)
-        go true = new_done (num_op p) (call_op n)
-        go false = long_on left
+        go : (b : Bool) → ZeroLaw (if b then (step.Done 0, fresh) else zero_on left c) (if b then after_table t else long_step t left c)
+        go true = after_law t
+        go false = long_on y left
 
-  index_law : (n left c : ℕ) → OpLaw (num_op p (in_op.CallTable n left)) c (table_step p n left c)
-  index_law n left c =
-      let P : Bool → Type 0 = λ b. OpLaw (if b then Some (u32_zero, at_zeros left) else None) c (if c == 0x00 then Done (call_op n) else (if b then long_step n left c else Bad why.BadByte)) in
-      elim (bool_cases (has p LongIndex)) [
-        | inl y ↦ subst P (sym y) (long_law n c y left)
-        | inr k ↦ subst P (sym k) (cond_both (nat_eq c 0x00) _ _ OpNew (λ _. new_done (num_op p) (call_op n)) (λ _. new_byte (num_op p)))
-      ]
+    index_law : (left : ℕ) → OpLaw (num_op p (in_op.Table t left)) c (table_step p t left c)
+    index_law left =
+        let P : Bool → Type 0 = λ b. OpLaw (if b then Some (u32_zero (table_feature t), at_zeros left) else None) c (if c == 0x00 then after_table t else (if b then long_step t left c else Bad why.BadByte)) in
+        elim (bool_cases (has p (table_feature t))) [
+          | inl y ↦ subst P (sym y) (long_law y left)
+          | inr k ↦ subst P (sym k) (cond_both (nat_eq c 0x00) _ _ OpNew (λ _. after_law t) (λ _. new_byte (num_op p)))
+        ]
 
   op_law : (q : InOp) (c : ℕ) → OpLaw (num_op p q) c (op_push p q c)
   op_law in_op.First c = begin_law c
@@ -403,8 +430,11 @@ module _ (p : Profile) where
   op_law (in_op.Padding n left) c = padding_law n left c
   op_law (in_op.BlockType i) c = block_law i c
   op_law (in_op.Index i r) c = answer_law (num_op p) u32 (unsigned_push 32 r c) (λ t. in_op.Index i t) (λ n. Done (index_op i n)) (λ s. refl) (λ n. new_done (num_op p) (index_op i n))
-  op_law (in_op.CallType r) c = answer_law (num_op p) u32 (unsigned_push 32 r c) (λ t. in_op.CallType t) (λ n. More (in_op.CallTable n 4)) (λ s. refl) (λ n. new_more (num_op p) (in_op.CallTable n 4) table_new)
-  op_law (in_op.CallTable n left) c = index_law n left c
+  op_law (in_op.CallType r) c = answer_law (num_op p) u32 (unsigned_push 32 r c) (λ t. in_op.CallType t) (λ n. More (in_op.Table (table_at.Call n) 4)) (λ s. refl) (λ n. new_more (num_op p) (in_op.Table (table_at.Call n) 4) (table_new (table_at.Call n)))
+  op_law (in_op.Table t left) c = index_law t c left
+  op_law (in_op.InitElement r) c = answer_law (num_op p) u32 (unsigned_push 32 r c) (λ t. in_op.InitElement t) (λ n. More (in_op.Table (table_at.Init n) 4)) (λ s. refl) (λ n. new_more (num_op p) (in_op.Table (table_at.Init n) 4) (table_new (table_at.Init n)))
+  op_law (in_op.InitSegment r) c = answer_law (num_op p) u32 (unsigned_push 32 r c) (λ t. in_op.InitSegment t) (λ n. More (in_op.InitMemory n)) (λ s. refl) (λ n. new_more (num_op p) (in_op.InitMemory n) tt)
+  op_law (in_op.InitMemory n) c = closing_law (init_op n) c
   op_law in_op.FirstZero c = first_zero_law c
   op_law (in_op.Memory m) c = closing_law (memory_op m) c
   op_law (in_op.Const32 r) c = answer_law (num_op p) s32 (signed_push 32 r c) (λ t. in_op.Const32 t) (λ z. Done (const_32_op z)) (λ s. refl) (λ z. new_done (num_op p) (const_32_op z))
@@ -535,6 +565,7 @@ module _ (p : Profile) where
   over_new : (of : ConstantOf) → MemberNew (constant_over of)
   over_new constant.Global = (tt, λ e. cc)
   over_new constant.Element = (refl, λ e. cc)
+  over_new constant.IndexedElement = (tt, λ e. cc)
   over_new constant.Segment = (refl, λ e. cc)
 
   constant_keeps : (of : ConstantOf) (x : InExpression) (i : Integer) (s : Partial) → num_expression p x ≡ Some (i, s) → ((num_member p (after_constant of x) ≡ Some (i, s)) × (after_constant of x ≢ at.Failed why.BadNumber)) ⊎ IsCut at.Failed (num_member p) (after_constant of x)
@@ -548,6 +579,51 @@ module _ (p : Profile) where
   constant_new of (expression.Label depth left r) h = (h.0, λ e. cc)
   constant_new of expression.Over h = over_new of
   constant_new of (expression.Failed w) h = (tt, λ e. h.1 (ap expression.Failed (let s : w ≡ why.BadNumber = cc in s)))
+
+  -- the number at the front of a segment
+  active_new : (of : SegmentKind) (n : ℕ) → MemberNew (active_begun of n).0
+  active_new segments.Element n = (tt, λ e. cc)
+  active_new segments.Data n = (tt, λ e. cc)
+
+  passive_new : (of : SegmentKind) → MemberNew (passive_begun of).0
+  passive_new segments.Element = (tt, λ e. cc)
+  passive_new segments.Data = (refl, λ e. cc)
+
+  module _ (of : SegmentKind) where
+    front_begun : (flagged : Bool) (n : ℕ) → n ≤ 2 ⊎ (flagged ≡ false) → MemberNew (segment_begun flagged of n).0
+    front_begun false n l = active_new of n
+    front_begun true zero l = active_new of 0
+    front_begun true (suc zero) l = passive_new of
+    front_begun true (suc (suc zero)) l = (refl, λ e. cc)
+    front_begun true (suc (suc (suc n))) (inl l) = absurd (omega (arith, l))
+    front_begun true (suc (suc (suc n))) (inr e) = cc
+
+    begun_bad : (n : ℕ) → 2 < n → (segment_begun true of n).0 ≡ at.Failed why.BadNumber
+    begun_bad zero l = absurd (omega (arith, l))
+    begun_bad (suc zero) l = absurd (omega (arith, l))
+    begun_bad (suc (suc zero)) l = absurd (omega (arith, l))
+    begun_bad (suc (suc (suc n))) l = refl
+
+    front_is : (flagged : Bool) → has p BulkMemory ≡ flagged → (s : Partial) → num_member p (at.SegmentStart of s) ≡ Some (front_number flagged, s)
+    front_is flagged e s = ap (λ f. Some (front_number f, s)) e
+
+    abbrev FrontLaw : Bool → Step ℕ × Partial → Type 0
+    FrontLaw flagged q = Pushed at.Failed (num_member p) u32_flag (flag_only q) (on_number q (segment_unfinished flagged of) (segment_begun flagged of) at.Failed).0
+
+    flag_law : has p BulkMemory ≡ true → (q : Step ℕ × Partial) → FrontLaw true q
+    flag_law e (step.More, s) = more_flag (nat_le s.low 2)
+      where
+        more_flag : (small : Bool) → Pushed at.Failed (num_member p) u32_flag (only_if small (step.More, s)) (if small then at.SegmentStart of s else at.Failed why.BadNumber)
+        more_flag true = inl (front_is true e s, λ i. cc)
+        more_flag false = refl
+    flag_law e (step.Done n, s) =
+        cond_both (nat_le n 2) _ _ (λ (q : Step ℕ × Partial). Pushed at.Failed (num_member p) u32_flag q (segment_begun true of n).0) (λ l. front_begun true n (inl (leb-true n 2 l))) (λ l. begun_bad n (leb-false n 2 l))
+    flag_law e (step.Bad, s) = refl
+
+    front_law : (flagged : Bool) → has p BulkMemory ≡ flagged → (r : Partial) (c : ℕ)
+        → Law at.Failed (num_member p) (Some (front_number flagged, r)) c (on_number (unsigned_push 32 r c) (segment_unfinished flagged of) (segment_begun flagged of) at.Failed).0
+    front_law false e r c = on_number_law at.Failed (num_member p) (unsigned_push 32 r c) (segment_unfinished false of) (segment_begun false of) (front_is false e) (λ s i. cc) (λ n. front_begun false n (inr refl))
+    front_law true e r c = flag_law e (unsigned_push 32 r c)
 
   framed_keeps : (n : ℕ) (x : InEntry) (i : Integer) (s : Partial) → num_entry p x ≡ Some (i, s) → ((num_member p (member_in_entry n x) ≡ Some (i, s)) × (member_in_entry n x ≢ at.Failed why.BadNumber)) ⊎ IsCut at.Failed (num_member p) (member_in_entry n x)
   framed_keeps n (entry.Failed w) i s e = absurd (cc)
@@ -592,6 +668,8 @@ module _ (p : Profile) where
   member_law (at.Name of more) c = name_step_new of more
   member_law (at.Value v) c = on_value_law at.Failed (num_member p) num_value at.Value (λ q. with_item_given at.Over q) (λ s. refl) (λ s e. cc) (λ w. tt) at_apart (λ x. (tt, λ e. cc)) (num_value v) c (value_push p v c) (value_law p v c)
   member_law (at.Index of r) c = on_number_law at.Failed (num_member p) (unsigned_push 32 r c) (λ s. at.Index of s) (λ n. with_item_given (after_index of) (index_item of n)) (λ s. refl) (λ s e. cc) (λ n. index_new of)
+  member_law (at.SegmentStart of r) c = front_law of (has p BulkMemory) refl r c
+  member_law at.ElementKind c = cond_both (nat_eq c 0x00) _ _ (λ (x : InMember × Event). MemberNew x.0) (λ _. (refl, λ e. cc)) (λ _. (tt, λ e. cc))
   member_law (at.GlobalType g) c = on_value_law at.Failed (num_member p) num_global at.GlobalType (λ t. with_item_given (at.Constant constant.Global start) (plain.Global t)) (λ s. refl) (λ s e. cc) (λ w. tt) at_apart (λ x. (tt, λ e. cc)) None c (global_type_push p g c) (global_law p g c)
   member_law (at.Constant of e) c = lift expression.Failed (num_expression p) at.Failed (num_member p) (after_constant of) (λ w. refl) (constant_keeps of) (constant_new of) (num_expression p e) c (expression_step p e c).0 (expression_law e c)
   member_law (at.Length of r) c = on_number_law at.Failed (num_member p) (unsigned_push 32 r c) (λ s. at.Length of s) (λ n. (list_or_over of n, event.Nothing)) (λ s. refl) (λ s e. cc) (list_new of)
@@ -619,6 +697,10 @@ module _ (p : Profile) where
   abbrev Kept : Machine → Integer → Partial → Type 0
   Kept m i s = ((num_machine p m ≡ Some (i, s)) × (m ≢ machine.Refused why.BadNumber)) ⊎ IsCut machine.Refused (num_machine p) m
 
+  front_new : (flagged : Bool) → fresh ≡ at_first (front_number flagged)
+  front_new true = refl
+  front_new false = refl
+
   begin_new : (of : SectionKind) → IsNew (num_member p (member_at_start of))
   begin_new section_kind.Type = tt
   begin_new section_kind.Import = refl
@@ -628,9 +710,10 @@ module _ (p : Profile) where
   begin_new section_kind.Global = tt
   begin_new section_kind.Export = refl
   begin_new section_kind.Start = refl
-  begin_new section_kind.Element = refl
+  begin_new section_kind.Element = front_new (has p BulkMemory)
+  begin_new section_kind.DataCount = refl
   begin_new section_kind.Code = refl
-  begin_new section_kind.Segment = refl
+  begin_new section_kind.Segment = front_new (has p BulkMemory)
 
   section_keeps : (of : SectionKind) (counts : Counts) (bytes left : ℕ) (x : InMember) (i : Integer) (s : Partial) → num_member p x ≡ Some (i, s) → Kept (machine_in_member of counts bytes left x) i s
   section_keeps of counts bytes left (at.Failed w) i s e = absurd (cc)
@@ -677,9 +760,10 @@ module _ (p : Profile) where
   start_member section_kind.Global = (tt, λ e. cc)
   start_member section_kind.Export = (refl, λ e. cc)
   start_member section_kind.Start = (refl, λ e. cc)
-  start_member section_kind.Element = (refl, λ e. cc)
+  start_member section_kind.Element = (front_new (has p BulkMemory), λ e. cc)
+  start_member section_kind.DataCount = (refl, λ e. cc)
   start_member section_kind.Code = (refl, λ e. cc)
-  start_member section_kind.Segment = (refl, λ e. cc)
+  start_member section_kind.Segment = (front_new (has p BulkMemory), λ e. cc)
 
   listed_new : (of : SectionKind) (counts : Counts) (bytes n : ℕ) → MachineNew (machine_after_count of counts bytes n)
   listed_new of counts bytes zero = section_new of counts bytes zero at.Over (tt, λ e. cc)
@@ -688,6 +772,8 @@ module _ (p : Profile) where
   paired_new : (of : SectionKind) (counts : Counts) (bytes n : ℕ) → MachineNew (machine_after_paired_count of counts bytes n)
   paired_new section_kind.Function counts bytes n = listed_new section_kind.Function (counts_in section_kind.Function counts n) bytes n
   paired_new section_kind.Code counts bytes n = cond_both (nat_eq n counts.functions) _ _ MachineNew (λ _. listed_new section_kind.Code (counts_in section_kind.Code counts n) bytes n) (λ _. (tt, λ e. cc))
+  paired_new section_kind.DataCount counts bytes n = listed_new section_kind.DataCount (counts_in section_kind.DataCount counts n) bytes zero
+  paired_new section_kind.Segment counts bytes n = cond_both (is_given counts.segments n) _ _ MachineNew (λ _. listed_new section_kind.Segment (counts_in section_kind.Segment counts n) bytes n) (λ _. (tt, λ e. cc))
   paired_new of counts bytes n = listed_new of (counts_in of counts n) bytes n
 
   count_law : (of : SectionKind) (counts : Counts) (more : ℕ) (q : Step ℕ × Partial) → Pushed machine.Refused (num_machine p) u32 q (after_count of counts more q).0
@@ -712,13 +798,13 @@ module _ (p : Profile) where
       at_last (suc n) = (tt, λ e. cc)
   begun_new of counts = (refl, λ e. cc)
 
-  rising_new : (last : ℕ) (counts : Counts) (id : ℕ) (q : Option SectionKind) → MachineNew (machine_if_rising last counts id q).0
-  rising_new last counts id None = (tt, λ e. cc)
-  rising_new last counts id (Some of) = cond_both (nat_le id last) _ _ (λ (q : Machine × Event). MachineNew q.0) (λ _. (tt, λ e. cc)) (λ _. begun_new of counts)
+  rising_new : (last : ℕ) (counts : Counts) (q : Option SectionKind) → MachineNew (machine_if_rising last counts q).0
+  rising_new last counts None = (tt, λ e. cc)
+  rising_new last counts (Some of) = cond_both (nat_le (rank_of of) last) _ _ (λ (q : Machine × Event). MachineNew q.0) (λ _. (tt, λ e. cc)) (λ _. begun_new of counts)
 
-  start_new : (last : ℕ) (counts : Counts) (c : ℕ) → MachineNew (section_start last counts c).0
+  start_new : (last : ℕ) (counts : Counts) (c : ℕ) → MachineNew (section_start p last counts c).0
   start_new last counts zero = (refl, λ e. cc)
-  start_new last counts (suc m) = rising_new last counts (suc m) (section_kind_of (suc m))
+  start_new last counts (suc m) = rising_new last counts (section_kind_of p (suc m))
 
   header_new : (n c : ℕ) → MachineNew (header_step n c).0
   header_new n c =
@@ -742,13 +828,15 @@ module _ (p : Profile) where
   -- the number that has begun and can go on
   abbrev After : Integer → Partial → List ℕ → Type 0
   After u32 r y = UnsignedAfter 32 r y × HasRoom 32 r
-  After u32_zero r y = (d : ℕ) (b : List ℕ) → Zeros r.low (d ∷ b) ↔ Unsigned 32 0 (y ++ d ∷ b)
+  After (u32_zero f) r y = (d : ℕ) (b : List ℕ) → Zeros r.low (d ∷ b) ↔ Unsigned 32 0 (y ++ d ∷ b)
+  After u32_flag r y = (UnsignedAfter 32 r y × HasRoom 32 r) × (r.low ≤ 2)
   After s32 r y = SignedAfter 32 r y × HasRoom 32 r
   After s64 r y = SignedAfter 64 r y × HasRoom 64 r
 
   fresh_after : (i : Integer) → After i (at_first i) []
   fresh_after u32 = (unsigned_fresh 32 (omega arith), fresh_room 32 (omega arith))
-  fresh_after u32_zero = λ d b. (zeros_spell 4 32 (omega arith) (d ∷ b), spelled_zeros 4 32 (omega arith) (d ∷ b))
+  fresh_after (u32_zero f) = λ d b. (zeros_spell 4 32 (omega arith) (d ∷ b), spelled_zeros 4 32 (omega arith) (d ∷ b))
+  fresh_after u32_flag = ((unsigned_fresh 32 (omega arith), fresh_room 32 (omega arith)), omega arith)
   fresh_after s32 = (signed_fresh 32 (omega arith), fresh_room 32 (omega arith))
   fresh_after s64 = (signed_fresh 64 (omega arith), fresh_room 64 (omega arith))
 
@@ -773,15 +861,20 @@ module _ (p : Profile) where
       go (step.Done v, s) h room = tt
       go (step.Bad, s) h room = tt
 
+  flag_pushed : (q : Step ℕ × Partial) (y : List ℕ) → PushAfter u32 q y → PushAfter u32_flag (flag_only q) y
+  flag_pushed (step.More, s) y h = cond_both (nat_le s.low 2) _ _ (λ (q : Step ℕ × Partial). PushAfter u32_flag q y) (λ l. (h, leb-true s.low 2 l)) (λ _. tt)
+  flag_pushed (step.Done n, s) y h = cond_both (nat_le n 2) _ _ (λ (q : Step ℕ × Partial). PushAfter u32_flag q y) (λ _. tt) (λ _. tt)
+  flag_pushed (step.Bad, s) y h = tt
+
   not_ended : (c : ℕ) → c ≡ 0x80 → c ≡ 0 → ⊥
   not_ended c e z = omega (arith, e, z)
 
-  zero_pushed : (r : Partial) (y : List ℕ) (c : ℕ) → After u32_zero r y → PushAfter u32_zero (zero_push r c) (y ++ c ∷ [])
-  zero_pushed r y c a = cond_both (nat_eq c 0x00) _ _ (λ (q : Step ℕ × Partial). PushAfter u32_zero q (y ++ c ∷ [])) (λ _. tt) (λ _. go r.low a)
+  zero_pushed : (f : Feature) (r : Partial) (y : List ℕ) (c : ℕ) → After (u32_zero f) r y → PushAfter (u32_zero f) (zero_push r c) (y ++ c ∷ [])
+  zero_pushed f r y c a = cond_both (nat_eq c 0x00) _ _ (λ (q : Step ℕ × Partial). PushAfter (u32_zero f) q (y ++ c ∷ [])) (λ _. tt) (λ _. go r.low a)
     where
-      go : (left : ℕ) → ((d : ℕ) (b : List ℕ) → Zeros left (d ∷ b) ↔ Unsigned 32 0 (y ++ d ∷ b)) → PushAfter u32_zero (zero_on left c) (y ++ c ∷ [])
+      go : (left : ℕ) → ((d : ℕ) (b : List ℕ) → Zeros left (d ∷ b) ↔ Unsigned 32 0 (y ++ d ∷ b)) → PushAfter (u32_zero f) (zero_on left c) (y ++ c ∷ [])
       go zero u = tt
-      go (suc left) u = cond_both (nat_eq c 0x80) _ _ (λ (q : Step ℕ × Partial). PushAfter u32_zero q (y ++ c ∷ []))
+      go (suc left) u = cond_both (nat_eq c 0x80) _ _ (λ (q : Step ℕ × Partial). PushAfter (u32_zero f) q (y ++ c ∷ []))
           (λ z d b.
           let is : c ≡ 0x80 = eqb-true c 0x80 z in
           let one = u c (d ∷ b) in
@@ -828,7 +921,10 @@ module _ (p : Profile) where
   law_tracked : (n : Num) (c : ℕ) → c < 2 ^ 8 → (x : Machine) (b : List ℕ) → Law machine.Refused (num_machine p) n c x → Tracked n b → Tracked (num_machine p x) (b ++ c ∷ [])
   law_tracked None c byte x b h t = new_tracked (num_machine p x) (b ++ c ∷ []) h.0
   law_tracked (Some (u32, r)) c byte x b h t = pushed_tracked u32 (unsigned_push 32 r c) t.0 t.1 b c (unsigned_pushed r t.1 c byte t.3) t.2 x h
-  law_tracked (Some (u32_zero, r)) c byte x b h t = pushed_tracked u32_zero (zero_push r c) t.0 t.1 b c (zero_pushed r t.1 c t.3) t.2 x h
+  law_tracked (Some (u32_zero f, r)) c byte x b h t = pushed_tracked (u32_zero f) (zero_push r c) t.0 t.1 b c (zero_pushed f r t.1 c t.3) t.2 x h
+  law_tracked (Some (u32_flag, r)) c byte x b h t =
+      let q = unsigned_push 32 r c in
+      pushed_tracked u32_flag (flag_only q) t.0 t.1 b c (flag_pushed q (t.1 ++ c ∷ []) (unsigned_pushed r t.1 c byte t.3.0)) t.2 x h
   law_tracked (Some (s32, r)) c byte x b h t = pushed_tracked s32 (signed_push 32 r c) t.0 t.1 b c (of_32 (signed_push 32 r c) r t.1 c byte t.3.0 (signed_pushed 32 r t.1 c byte t.3.0) (signed_room 32 r c t.3.1 byte)) t.2 x h
   law_tracked (Some (s64, r)) c byte x b h t = pushed_tracked s64 (signed_push 64 r c) t.0 t.1 b c (of_64 (signed_push 64 r c) r t.1 c byte t.3.0 (signed_pushed 64 r t.1 c byte t.3.0) (signed_room 64 r c t.3.1 byte)) t.2 x h
 
@@ -853,19 +949,22 @@ module _ (p : Profile) where
 
   -- what may still come of it
   abbrev Allowed : Integer → Type 0
-  Allowed u32_zero = IsTrue (has p LongIndex)
+  Allowed (u32_zero f) = IsTrue (has p f)
+  Allowed u32_flag = IsTrue (has p BulkMemory)
   Allowed _ = Unit {0}
 
   to_spelled : (i : Integer) (r : Partial) (y b : List ℕ) → Allowed i → After i r y → b ≢ [] → RestOf i r b → spells p i (y ++ b)
   to_spelled i r y [] may a some h = absurd (some refl)
   to_spelled u32 r y (d ∷ b) may a some h = (h.0, (a.0.same h.0 d b).1 h.1)
-  to_spelled u32_zero r y (d ∷ b) may a some h = (may, (a d b).0 h)
+  to_spelled (u32_zero f) r y (d ∷ b) may a some h = (may, (a d b).0 h)
+  to_spelled u32_flag r y (d ∷ b) may a some h = (may, h.0, h.1, (a.0.0.same h.0 d b).1 h.2)
   to_spelled s32 r y (d ∷ b) may a some h = (h.0, (a.0.same h.0 d b).1 h.1)
   to_spelled s64 r y (d ∷ b) may a some h = (h.0, (a.0.same h.0 d b).1 h.1)
 
   from_spelled : (i : Integer) (r : Partial) (y : List ℕ) (d : ℕ) (b : List ℕ) → After i r y → spells p i (y ++ d ∷ b) → RestOf i r (d ∷ b)
   from_spelled u32 r y d b a h = (h.0, (a.0.same h.0 d b).0 h.1)
-  from_spelled u32_zero r y d b a h = (a d b).1 h.1
+  from_spelled (u32_zero f) r y d b a h = (a d b).1 h.1
+  from_spelled u32_flag r y d b a h = (h.1, h.2, (a.0.0.same h.1 d b).0 h.3)
   from_spelled s32 r y d b a h = (h.0, (a.0.same h.0 d b).0 h.1)
   from_spelled s64 r y d b a h = (h.0, (a.0.same h.0 d b).0 h.1)
 
@@ -875,7 +974,8 @@ module _ (p : Profile) where
 
   last_comes : (i : Integer) (r : Partial) (y : List ℕ) → After i r y → RestOf i r (0 ∷ [])
   last_comes u32 r y a = (r.low, last_byte r a.1.0)
-  last_comes u32_zero r y a = one_zero r.low (0 ∷ []) refl
+  last_comes (u32_zero f) r y a = one_zero r.low (0 ∷ []) refl
+  last_comes u32_flag r y a = (r.low, a.1, last_byte r a.0.1.0)
   last_comes s32 r y a = (last_signed r (pos 0), last_signed_byte 32 r a.1.0)
   last_comes s64 r y a = (last_signed r (pos 0), last_signed_byte 64 r a.1.0)
 
@@ -893,12 +993,24 @@ module _ (p : Profile) where
       go (step.Done v, s) n = (v, (n v []).1 (refl, refl))
       go (step.Bad, s) n = λ b h. (n h.0 b).0 h.1
 
-  onward_zero : (r : Partial) (c : ℕ) → Onward u32_zero r c (zero_push r c)
-  onward_zero r c = cond_both (nat_eq c 0x00) _ _ (Onward u32_zero r c) (λ z. one_zero r.low (c ∷ []) (ap (λ x. x ∷ []) (eqb-true c 0x00 z))) (λ z. go r.low (eqb-false c 0x00 z))
+  onward_zero : (f : Feature) (r : Partial) (c : ℕ) → Onward (u32_zero f) r c (zero_push r c)
+  onward_zero f r c = cond_both (nat_eq c 0x00) _ _ (Onward (u32_zero f) r c) (λ z. one_zero r.low (c ∷ []) (ap (λ x. x ∷ []) (eqb-true c 0x00 z))) (λ z. go r.low (eqb-false c 0x00 z))
     where
-      go : (left : ℕ) → (c ≡ 0 → ⊥) → Onward u32_zero (at_zeros left) c (zero_on left c)
+      go : (left : ℕ) → (c ≡ 0 → ⊥) → Onward (u32_zero f) (at_zeros left) c (zero_on left c)
       go zero n = λ b h. no_zeros c b n h
-      go (suc left) n = cond_both (nat_eq c 0x80) _ _ (Onward u32_zero (at_zeros (suc left)) c) (λ z b h. zeros_on left c b (eqb-true c 0x80 z) h) (λ z b h. eqb-false c 0x80 z (zeros_off left c b n h).0)
+      go (suc left) n = cond_both (nat_eq c 0x80) _ _ (Onward (u32_zero f) (at_zeros (suc left)) c) (λ z b h. zeros_on left c b (eqb-true c 0x80 z) h) (λ z b h. eqb-false c 0x80 z (zeros_off left c b n h).0)
+
+  onward_flag : (r : Partial) (c : ℕ) → c < 2 ^ 8 → Onward u32_flag r c (flag_only (unsigned_push 32 r c))
+  onward_flag r c byte = go (unsigned_push 32 r c) (number_next r c byte)
+    where
+      go : (q : Step ℕ × Partial) → NumberNext r c q → Onward u32_flag r c (flag_only q)
+      go (step.More, s) n =
+          cond_both (nat_le s.low 2) _ _ (Onward u32_flag r c) (λ _ b h. (h.0, h.1, (n h.0 b).1 h.2))
+          (λ l b h. let g = (n h.0 b).0 h.2 in let is = g.2 in let few = h.1 in let large = leb-false s.low 2 l in omega (arith, is, few, large))
+      go (step.Done v, s) n =
+          cond_both (nat_le v 2) _ _ (Onward u32_flag r c) (λ l. (v, leb-true v 2 l, (n v []).1 (refl, refl)))
+          (λ l b h. let g = (n h.0 b).0 h.2 in let is = g.0 in let few = h.1 in let large = leb-false v 2 l in omega (arith, is, few, large))
+      go (step.Bad, s) n = λ b h. (n h.0 b).0 h.2
 
   onward_s32 : (r : Partial) (c : ℕ) → c < 2 ^ 8 → Onward s32 r c (signed_push 32 r c)
   onward_s32 r c byte = go (signed_push 32 r c) (λ z more. signed_law 32 r z c more byte)
@@ -928,7 +1040,8 @@ module _ (p : Profile) where
 
   law_ended : (i : Integer) (r : Partial) (c : ℕ) → c < 2 ^ 8 → (x : Machine) → Law machine.Refused (num_machine p) (Some (i, r)) c x → x ≡ machine.Refused why.BadNumber → (b : List ℕ) → RestOf i r (c ∷ b) → ⊥
   law_ended u32 r c byte x h e = push_ended u32 r c (unsigned_push 32 r c) x (onward_u32 r c byte) h e
-  law_ended u32_zero r c byte x h e = push_ended u32_zero r c (zero_push r c) x (onward_zero r c) h e
+  law_ended (u32_zero f) r c byte x h e = push_ended (u32_zero f) r c (zero_push r c) x (onward_zero f r c) h e
+  law_ended u32_flag r c byte x h e = push_ended u32_flag r c (flag_only (unsigned_push 32 r c)) x (onward_flag r c byte) h e
   law_ended s32 r c byte x h e = push_ended s32 r c (signed_push 32 r c) x (onward_s32 r c byte) h e
   law_ended s64 r c byte x h e = push_ended s64 r c (signed_push 64 r c) x (onward_s64 r c byte) h e
 
@@ -956,7 +1069,8 @@ module _ (p : Profile) where
 
   law_comes : (i : Integer) (r : Partial) (d : ℕ) → d < 2 ^ 8 → (more : List ℕ) (x : Machine) (y : List ℕ) (k : Marks) → Law machine.Refused (num_machine p) (Some (i, r)) d x → MachineRest strict p x y more k → ((s : Partial) → num_machine p x ≡ Some (i, s) → Comes i s more) → Comes i r (d ∷ more)
   law_comes u32 r d byte more x y k h = step_comes u32 r d more (unsigned_push 32 r d) x y k (onward_u32 r d byte) h
-  law_comes u32_zero r d byte more x y k h = step_comes u32_zero r d more (zero_push r d) x y k (onward_zero r d) h
+  law_comes (u32_zero f) r d byte more x y k h = step_comes (u32_zero f) r d more (zero_push r d) x y k (onward_zero f r d) h
+  law_comes u32_flag r d byte more x y k h = step_comes u32_flag r d more (flag_only (unsigned_push 32 r d)) x y k (onward_flag r d byte) h
   law_comes s32 r d byte more x y k h = step_comes s32 r d more (signed_push 32 r d) x y k (onward_s32 r d byte) h
   law_comes s64 r d byte more x y k h = step_comes s64 r d more (signed_push 64 r d) x y k (onward_s64 r d byte) h
 
@@ -978,81 +1092,77 @@ module _ (p : Profile) where
         | inr bad ↦ absurd (subst (λ z. MachineRest strict p z n.name more g.0) bad g.2)
       ]
 
-  -- a table index is such a number only where indices may be long
-  abbrev kind_of : Num → Integer
-  kind_of None = u32
-  kind_of (Some q) = q.0
+  -- the number that a state is inside is of a kind that the profile has
+  abbrev AllowedNum : Num → Type 0
+  AllowedNum None = Unit {0}
+  AllowedNum (Some q) = Allowed q.0
 
-  not_zero : (n : Num) (r : Partial) → n ≡ Some (u32_zero, r) → (kind_of n ≡ u32_zero → ⊥) → ⊥
-  not_zero n r e h = h (ap kind_of e)
+  index_allowed : (f : Feature) (b : Bool) (left : ℕ) → has p f ≡ b → AllowedNum (if b then Some (u32_zero f, at_zeros left) else None)
+  index_allowed f true left e = e
+  index_allowed f false left e = tt
 
-  abbrev of_index : Bool → ℕ → Num
-  of_index b left = if b then Some (u32_zero, at_zeros left) else None
+  front_allowed : (b : Bool) → has p BulkMemory ≡ b → Allowed (front_number b)
+  front_allowed true e = e
+  front_allowed false e = tt
 
-  index_zero : (b : Bool) (left : ℕ) (r : Partial) → of_index b left ≡ Some (u32_zero, r) → IsTrue b
-  index_zero true left r e = refl
-  index_zero false left r e = absurd (not_zero None r e (λ f. cc))
+  op_allowed : (q : InOp) → AllowedNum (num_op p q)
+  op_allowed (in_op.Table t left) = index_allowed (table_feature t) (has p (table_feature t)) left refl
+  op_allowed _ = tt
 
-  op_zero : (q : InOp) (r : Partial) → num_op p q ≡ Some (u32_zero, r) → IsTrue (has p LongIndex)
-  op_zero (in_op.CallTable n left) r e = index_zero (has p LongIndex) left r e
-  op_zero _ r e = absurd (not_zero _ r e (λ f. cc))
+  limits_allowed : (l : InLimits) → AllowedNum (num_limits l)
+  limits_allowed limits.Flag = tt
+  limits_allowed _ = tt
 
-  limits_zero : (l : InLimits) (r : Partial) → num_limits l ≡ Some (u32_zero, r) → ⊥
-  limits_zero limits.Flag r e = not_zero None r e (λ f. cc)
-  limits_zero _ r e = not_zero _ r e (λ f. cc)
+  table_allowed : (t : InTableType) → AllowedNum (num_table t)
+  table_allowed table.ElementType = tt
+  table_allowed (table.Limits l) = limits_allowed l
 
-  table_zero : (t : InTableType) (r : Partial) → num_table t ≡ Some (u32_zero, r) → ⊥
-  table_zero table.ElementType r e = not_zero None r e (λ f. cc)
-  table_zero (table.Limits l) r e = limits_zero l r e
+  desc_allowed : (d : InImportDesc) → AllowedNum (num_desc d)
+  desc_allowed (import.Table t) = table_allowed t
+  desc_allowed (import.Memory l) = limits_allowed l
+  desc_allowed _ = tt
 
-  desc_zero : (d : InImportDesc) (r : Partial) → num_desc d ≡ Some (u32_zero, r) → ⊥
-  desc_zero (import.Table t) r e = table_zero t r e
-  desc_zero (import.Memory l) r e = limits_zero l r e
-  desc_zero _ r e = not_zero _ r e (λ f. cc)
+  target_allowed : (t : InExportDesc) → AllowedNum (num_target t)
+  target_allowed target.Kind = tt
+  target_allowed _ = tt
 
-  target_zero : (t : InExportDesc) (r : Partial) → num_target t ≡ Some (u32_zero, r) → ⊥
-  target_zero target.Kind r e = not_zero None r e (λ f. cc)
-  target_zero _ r e = not_zero _ r e (λ f. cc)
+  run_allowed : (q : InRun) → AllowedNum (num_run q)
+  run_allowed (run.Type n) = tt
+  run_allowed _ = tt
 
-  run_zero : (q : InRun) (r : Partial) → num_run q ≡ Some (u32_zero, r) → ⊥
-  run_zero (run.Type n) r e = not_zero None r e (λ f. cc)
-  run_zero _ r e = not_zero _ r e (λ f. cc)
+  value_allowed : (v : InValue) → AllowedNum (num_value v)
+  value_allowed (value.Import d) = desc_allowed d
+  value_allowed (value.Table t) = table_allowed t
+  value_allowed (value.Memory l) = limits_allowed l
+  value_allowed (value.Export t) = target_allowed t
 
-  value_zero : (v : InValue) (r : Partial) → num_value v ≡ Some (u32_zero, r) → ⊥
-  value_zero (value.Import d) r e = desc_zero d r e
-  value_zero (value.Table t) r e = table_zero t r e
-  value_zero (value.Memory l) r e = limits_zero l r e
-  value_zero (value.Export t) r e = target_zero t r e
+  expression_allowed : (x : InExpression) → AllowedNum (num_expression p x)
+  expression_allowed (expression.Op depth q) = op_allowed q
+  expression_allowed _ = tt
 
-  expression_zero : (x : InExpression) (r : Partial) → num_expression p x ≡ Some (u32_zero, r) → IsTrue (has p LongIndex)
-  expression_zero (expression.Op depth q) r e = op_zero q r e
-  expression_zero _ r e = absurd (not_zero _ r e (λ f. cc))
+  entry_allowed : (q : InEntry) → AllowedNum (num_entry p q)
+  entry_allowed (entry.Run more x) = run_allowed x
+  entry_allowed (entry.Body x) = expression_allowed x
+  entry_allowed _ = tt
 
-  entry_zero : (q : InEntry) (r : Partial) → num_entry p q ≡ Some (u32_zero, r) → IsTrue (has p LongIndex)
-  entry_zero (entry.Run more x) r e = absurd (run_zero x r e)
-  entry_zero (entry.Body x) r e = expression_zero x r e
-  entry_zero _ r e = absurd (not_zero _ r e (λ f. cc))
+  member_allowed : (q : InMember) → AllowedNum (num_member p q)
+  member_allowed (at.Value v) = value_allowed v
+  member_allowed (at.SegmentStart of s) = front_allowed (has p BulkMemory) refl
+  member_allowed (at.Constant of x) = expression_allowed x
+  member_allowed (at.Entry more q) = entry_allowed q
+  member_allowed _ = tt
 
-  member_zero : (q : InMember) (r : Partial) → num_member p q ≡ Some (u32_zero, r) → IsTrue (has p LongIndex)
-  member_zero (at.Value v) r e = absurd (value_zero v r e)
-  member_zero (at.Constant of x) r e = expression_zero x r e
-  member_zero (at.Entry more q) r e = entry_zero q r e
-  member_zero _ r e = absurd (not_zero _ r e (λ f. cc))
+  custom_allowed : (q : InCustom) → AllowedNum (num_custom q)
+  custom_allowed custom.Skip = tt
+  custom_allowed _ = tt
 
-  custom_zero : (q : InCustom) (r : Partial) → num_custom q ≡ Some (u32_zero, r) → ⊥
-  custom_zero custom.Skip r e = not_zero None r e (λ f. cc)
-  custom_zero _ r e = not_zero _ r e (λ f. cc)
-
-  machine_zero : (m : Machine) (r : Partial) → num_machine p m ≡ Some (u32_zero, r) → IsTrue (has p LongIndex)
-  machine_zero (machine.Custom last counts more q) r e = absurd (custom_zero q r e)
-  machine_zero (machine.Section of counts more left q) r e = member_zero q r e
-  machine_zero _ r e = absurd (not_zero _ r e (λ f. cc))
+  machine_allowed : (m : Machine) → AllowedNum (num_machine p m)
+  machine_allowed (machine.Custom last counts more q) = custom_allowed q
+  machine_allowed (machine.Section of counts more left q) = member_allowed q
+  machine_allowed _ = tt
 
   allowed : (m : Machine) (i : Integer) (r : Partial) → num_machine p m ≡ Some (i, r) → Allowed i
-  allowed m u32_zero r e = machine_zero m r e
-  allowed m u32 r e = tt
-  allowed m s32 r e = tt
-  allowed m s64 r e = tt
+  allowed m i r e = subst AllowedNum e (machine_allowed m)
 
   -- of the bytes
   back_bytes : (a b : List ℕ) → AreBytes (a ++ b) → AreBytes b

@@ -1,5 +1,6 @@
 -- A profile reads each byte as a profile that extends it does, unless it lacks the thing that the byte begins.
-use Rattle.std.proofs.Common.{◌≡◌, ◌⊎◌, ℕ, zero, suc, ◌+◌, ◌-◌, ◌≤◌, ◌||◌, IsTrue, List, [], ◌∷◌, Option, Some, None as Nothing, Result, Ok, Err, Bool, true, false, refl, sym, ◌∙◌, ap, subst, inl, inr, arith, length-append, nat_eq, nat_lt, cond}
+use Rattle.std.proofs.Common.{◌≡◌, ◌⊎◌, ℕ, zero, suc, ◌+◌, ◌-◌, ◌≤◌, ◌||◌, IsTrue, List, [], ◌∷◌, Option, Some, None as Nothing, Result, Ok, Err, Bool, true, false, refl, sym, ◌∙◌, ap, subst, inl, inr, arith, length-append, nat_eq, nat_lt, cond, if◌then◌else◌}
+use Rattle.wm_syntax.specs.exact.Reading.{unsigned_push}
 use Rattle.std.proofs.lemmas.Bool.{cond_both, cond-true, or_cases}
 use Rattle.std.specs.Prelude.{slice_get}
 use Rattle.wm_syntax.specs.declared.why.Why.{Why}
@@ -9,7 +10,7 @@ use Rattle.wm_syntax.specs.declared.types.ValType.TheVariants.{I32, I64, F32, F6
 use Rattle.wm_syntax.specs.declared.instructions.Op.{Op}
 use Rattle.wm_syntax.specs.declared.instructions.op_class.OpClass.{OpClass}
 use Rattle.wm_syntax.specs.declared.profile.Feature.{Feature}
-use Rattle.wm_syntax.specs.declared.profile.Feature.TheVariants.{Base, Floats, SignExtension, LongIndex, Saturation, Copies}
+use Rattle.wm_syntax.specs.declared.profile.Feature.TheVariants.{Base, Floats, SignExtension, LongIndex, Saturation, Copies, BulkMemory}
 use Rattle.wm_syntax.specs.declared.profile.Profile.{Profile}
 use Rattle.wm_syntax.specs.Profiles.{Extends, has, has_prefix, type_feature}
 use Rattle.wm_syntax.specs.exact.ByteTable.{classes, class_feature, left_out, class_in, row_in, class_under}
@@ -27,7 +28,7 @@ use Rattle.wm_machine.specs.declared.step.reading.Reading.{Reading}
 use Rattle.wm_machine.specs.declared.step.reading.Reading.TheVariants.{Bad, Done, More}
 use Rattle.wm_machine.specs.declared.step.ops.InOp.{InOp}
 use Rattle.wm_machine.specs.declared.step.ops.InOp.TheVariants as place
-use Rattle.wm_machine.specs.declared.step.ops.BlockOp.{BlockOp}
+use Rattle.wm_syntax.specs.declared.instructions.op_class.BlockOp.{BlockOp}
 use Rattle.wm_machine.specs.declared.step.expressions.InExpression.{InExpression}
 use Rattle.wm_machine.specs.declared.step.expressions.InExpression.TheVariants as expression
 use Rattle.wm_machine.specs.declared.step.values.InGlobalType.{InGlobalType}
@@ -39,24 +40,32 @@ use Rattle.wm_machine.specs.declared.step.values.InRun.TheVariants as run
 use Rattle.wm_machine.specs.declared.step.values.InValue.{InValue}
 use Rattle.wm_machine.specs.declared.step.values.InValue.TheVariants as value
 use Rattle.wm_machine.specs.declared.refusal.Refusal.{Refusal}
-use Rattle.wm_machine.specs.BetweenProfiles.{IsProfileName, SameUpToProfile}
+use Rattle.wm_machine.specs.BetweenProfiles.{IsProfileName, ReadSegmentsAlike, SameUpToProfile}
 use Rattle.wm_machine.specs.Items.{Item}
 use Rattle.wm_machine.specs.Sinks.{and_then}
 use Rattle.wm_machine.specs.exact.ValueSteps.{type_under, value_type_of, read_type, global_type_push, desc_push, in_global, run_push, value_push, of_import}
-use Rattle.wm_machine.specs.exact.OpSteps.{class_step, prefix_step, begin_step, behind_step, padded, code_step, more_padding, padding_step, block_op, block_step, call_op, long_step, table_step, op_push}
+use Rattle.wm_machine.specs.exact.OpSteps.{class_step, prefix_step, begin_step, behind_step, padded, code_step, more_padding, padding_step, block_step, call_op, table_feature, after_table, long_step, table_step, op_push}
+use Rattle.wm_syntax.specs.exact.OpShapes.{block_op}
 use Rattle.wm_machine.specs.exact.ExpressionSteps.{start, after_reading, expression_step}
-use Rattle.wm_machine.specs.exact.MemberSteps.{on_value, on_type, with_item_given, after_param, after_result, after_constant, op_event, runs_or_body, entry_after_op, entry_step, member_in_entry, member_step}
-use Rattle.wm_machine.specs.exact.Steps.{machine_in_member, step_of}
+use Rattle.wm_machine.specs.exact.MemberSteps.{segment_begun, segment_unfinished, on_number, on_value, on_type, with_item_given, after_param, after_result, after_constant, op_event, runs_or_body, entry_after_op, entry_step, member_in_entry, member_step}
+use Rattle.wm_machine.specs.declared.machine.Counts.{Counts}
+use Rattle.wm_machine.specs.declared.machine.member.SectionKind.TheVariants as section_kind
+use Rattle.wm_machine.specs.exact.Steps.{machine_if_rising, machine_in_member, section_start, step_of}
 use Rattle.wm_machine.specs.exact.Live.{answer_between, Live, answer_at_end, answer_at_end_of, decoder_after, event_effect, live_at_start, live_byte, live_from}
 use Rattle.wm_machine.specs.inner.Answers.{answer_of}
 use Rattle.wm_machine.proofs.MachineAndSink.{live_ok, reached, used_of}
 use Rattle.std.specs.Prelude.{if◌then◌else◌}
+use Rattle.wm_machine.specs.declared.step.ops.TableOp.{TableOp}
+use Rattle.wm_machine.specs.declared.step.ops.TableOp.TheVariants as table_at
 
 -- a profile that extends one with instructions behind the prefix has some
 prefix_more : (p q : Profile) → Extends q p → IsTrue (has_prefix p) → IsTrue (has_prefix q)
-prefix_more p q more h = elim (or_cases (has p Saturation) (has p Copies) h) [
-  | inl k ↦ ap (λ (b : Bool). b || has q Copies) (more Saturation k)
-  | inr k ↦ or_right (has q Saturation) (has q Copies) (more Copies k)
+prefix_more p q more h = elim (or_cases (has p Saturation) (has p Copies || has p BulkMemory) h) [
+  | inl k ↦ ap (λ (b : Bool). b || (has q Copies || has q BulkMemory)) (more Saturation k)
+  | inr k ↦ or_right (has q Saturation) (has q Copies || has q BulkMemory) (elim (or_cases (has p Copies) (has p BulkMemory) k) [
+    | inl c ↦ ap (λ (b : Bool). b || has q BulkMemory) (more Copies c)
+    | inr m ↦ or_right (has q Copies) (has q BulkMemory) (more BulkMemory m)
+  ])
 ]
   where
     or_right : (a b : Bool) → b ≡ true → (a || b) ≡ true
@@ -81,15 +90,20 @@ module _ {H : Type 0} (h : H) (n : ℕ) (r : Refusal) where
   placed w e = let s : record { at = n; why = w } ≡ r = cc in ap (λ (y : Refusal). y.at) s
 
   end_at : (m : Machine) → answer_at_end_of m h n ≡ Err r → n ≡ r.at
-  end_at (machine.Between last counts) e = between counts.functions e
+  end_at (machine.Between last counts) e = between counts.functions counts.segments e
     where
-      between : (k : ℕ) → answer_between k h n ≡ Err r → n ≡ r.at
-      between zero e = absurd (let s : ◌≡◌ {A = Result H Refusal} (Ok h) (Err r) = e in cc)
-      between (suc k) e = placed why.CodeCount e
+      none : ◌≡◌ {A = Result H Refusal} (Ok h) (Err r) → n ≡ r.at
+      none e = absurd (cc)
+
+      between : (k : ℕ) (s : Option ℕ) → answer_between k s h n ≡ Err r → n ≡ r.at
+      between (suc k) s e = placed why.CodeCount e
+      between zero Nothing e = none e
+      between zero (Some zero) e = none e
+      between zero (Some (suc s)) e = placed why.DataCount e
   end_at (machine.Refused w) e = placed w e
   end_at _ e = placed why.Truncated e
 
-module _ (p q : Profile) (more : Extends q p) where
+module _ (p q : Profile) (more : Extends q p) (fronts : ReadSegmentsAlike p q) where
   type_under_apart : (t : ValType) → Apart p q Err (type_under p t) (type_under q t)
   type_under_apart t =
       cond_both (has p (type_feature t)) _ _ (λ (r : Result ValType Why). Apart p q Err r (type_under q t))
@@ -135,6 +149,7 @@ module _ (p q : Profile) (more : Extends q p) where
     left_out_apart LongIndex x = inr (why.BadOpcode, tt, refl)
     left_out_apart Saturation x = inr (why.BadOpcode, tt, refl)
     left_out_apart Copies x = inr (why.BadOpcode, tt, refl)
+    left_out_apart BulkMemory x = inr (why.BadOpcode, tt, refl)
 
     in_profiles : (k : OpClass) → Apart p q Bad (class_step (class_in p k)) (class_step (class_in q k))
     in_profiles k =
@@ -190,26 +205,38 @@ module _ (p q : Profile) (more : Extends q p) where
         by false = read_apart (λ t. Done (block_op o (Some t)))
 
     -- a table index of one byte, and of several
-    index_apart : (n left : ℕ) → Apart p q Bad (table_step p n left c) (table_step q n left c)
-    index_apart n left = by (nat_eq c 0x00)
+    call_apart : (n left : ℕ) → Apart p q Bad (table_step p (table_at.Call n) left c) (table_step q (table_at.Call n) left c)
+    call_apart n left = by (nat_eq c 0x00)
       where
-        other : Apart p q Bad (if has p LongIndex then long_step n left c else Bad why.BadByte) (if has q LongIndex then long_step n left c else Bad why.BadByte)
+        long : Reading InOp Op
+        long = long_step (table_at.Call n) left c
+
+        other : Apart p q Bad (if has p LongIndex then long else Bad why.BadByte) (if has q LongIndex then long else Bad why.BadByte)
         other =
-            cond_both (has p LongIndex) _ _ (λ (x : Reading InOp Op). Apart p q Bad x (if has q LongIndex then long_step n left c else Bad why.BadByte))
+            cond_both (has p LongIndex) _ _ (λ (x : Reading InOp Op). Apart p q Bad x (if has q LongIndex then long else Bad why.BadByte))
             (λ h. inl (sym (cond-true (has q LongIndex) _ _ (more LongIndex h))))
             (λ k. cond_both (has q LongIndex) _ _ (λ (x : Reading InOp Op). Apart p q Bad (Bad why.BadByte) x) (λ h. inr (why.BadByte, (h, k), refl)) (λ _. inl refl))
 
-        by : (b : Bool) → Apart {A = Reading InOp Op} p q Bad (if b then Done (call_op n) else (if has p LongIndex then long_step n left c else Bad why.BadByte))
-            (if b then Done (call_op n) else (if has q LongIndex then long_step n left c else Bad why.BadByte))
+        by : (b : Bool) → Apart {A = Reading InOp Op} p q Bad (if b then Done (call_op n) else (if has p LongIndex then long else Bad why.BadByte))
+            (if b then Done (call_op n) else (if has q LongIndex then long else Bad why.BadByte))
         by true = inl refl
         by false = other
+
+    index_alike : (t : TableOp) (left : ℕ) → has p (table_feature t) ≡ has q (table_feature t) → table_step p t left c ≡ table_step q t left c
+    index_alike t left = ap (λ (f : Bool). if nat_eq c 0x00 then after_table t else (if f then long_step t left c else Bad why.BadByte))
+
+    index_apart : (t : TableOp) (left : ℕ) → Apart p q Bad (table_step p t left c) (table_step q t left c)
+    index_apart (table_at.Call n) left = call_apart n left
+    index_apart (table_at.Init n) left = inl (index_alike (table_at.Init n) left fronts)
+    index_apart table_at.CopyTo left = inl (index_alike table_at.CopyTo left fronts)
+    index_apart table_at.CopyFrom left = inl (index_alike table_at.CopyFrom left fronts)
 
     op_apart : (o : InOp) → Apart p q Bad (op_push p o c) (op_push q o c)
     op_apart place.First = begin_apart
     op_apart place.Code = code_apart
     op_apart (place.Padding n left) = padding_apart n left
     op_apart (place.BlockType o) = block_apart o
-    op_apart (place.CallTable n left) = index_apart n left
+    op_apart (place.Table t left) = index_apart t left
     op_apart _ = inl refl
 
     expression_apart : (e : InExpression) → Apart p q (λ w. (expression.Failed w, Nothing)) (expression_step p e c) (expression_step q e c)
@@ -234,6 +261,7 @@ module _ (p q : Profile) (more : Extends q p) where
         through p q Err (λ r. on_type r (λ t. with_item_given (after_result left) (plain.OneResult t)) at.Failed) (value_type_of p c) (value_type_of q c) type_apart
     member_apart (at.Value v) =
         through p q Bad (λ x. on_value x at.Value (λ i. with_item_given at.Over i) at.Failed) (value_push p v c) (value_push q v c) (value_apart v)
+    member_apart (at.SegmentStart of r) = inl (ap (λ f. on_number (unsigned_push 32 r c) (segment_unfinished f of) (segment_begun f of) at.Failed) fronts)
     member_apart (at.GlobalType g) =
         through p q Bad (λ x. on_value x at.GlobalType (λ t. with_item_given (at.Constant constant.Global start) (plain.Global t)) at.Failed) (global_type_push p g c) (global_type_push q g c) (global_apart g)
     member_apart (at.Constant of e) =
@@ -242,9 +270,19 @@ module _ (p q : Profile) (more : Extends q p) where
         through p q (λ w. (entry.Failed w, event.Nothing)) (λ x. (member_in_entry left x.0, x.1)) (entry_step p n c) (entry_step q n c) (entry_apart n)
     member_apart _ = inl refl
 
+    -- a data count section
+    kind_apart : (last : ℕ) (counts : Counts) → Apart p q (λ w. (machine.Refused w, event.Nothing))
+        (machine_if_rising last counts (if has p BulkMemory then Some section_kind.DataCount else Nothing)) (machine_if_rising last counts (if has q BulkMemory then Some section_kind.DataCount else Nothing))
+    kind_apart last counts = inl (ap (λ f. machine_if_rising last counts (if f then Some section_kind.DataCount else Nothing)) fronts)
+
+    start_apart : (last : ℕ) (counts : Counts) (b : ℕ) → Apart p q (λ w. (machine.Refused w, event.Nothing)) (section_start p last counts b) (section_start q last counts b)
+    start_apart last counts (suc (suc (suc (suc (suc (suc (suc (suc (suc (suc (suc (suc zero)))))))))))) = kind_apart last counts
+    start_apart last counts _ = inl refl
+
     step_apart : (m : Machine) → Apart p q (λ w. (machine.Refused w, event.Nothing)) (step_of p m c) (step_of q m c)
     step_apart (machine.Section of counts bytes left m) =
         through p q (λ w. (at.Failed w, event.Nothing)) (λ x. (machine_in_member of counts bytes left x.0, x.1)) (member_step p m c) (member_step q m c) (member_apart m)
+    step_apart (machine.Between last counts) = start_apart last counts c
     step_apart _ = inl refl
 
   -- a sink changes nothing of this

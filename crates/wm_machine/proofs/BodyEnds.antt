@@ -1,6 +1,10 @@
 -- BodyEnd is given if the size of a code entry is used up and the entry is incomplete, or if the entry is complete and
 -- bytes are left.
 use Rattle.std.proofs.Common.{◌≡◌, ◌≢◌, ℕ, zero, suc, ◌+◌, ◌<◌, ◌^◌, ◌⊎◌, inl, inr, List, [], ◌∷◌, ◌++◌, Option, Some, None, Result, Ok, Err, length, refl, sym, ◌∙◌, ap, subst, arith, nat_eq, nat_lt, nat_le, append_assoc, append-nil, length-append}
+use Rattle.wm_syntax.specs.Profiles.{has}
+use Rattle.wm_syntax.specs.declared.profile.Feature.TheVariants.{BulkMemory}
+use Rattle.wm_machine.proofs.SegmentStarts.{unfinished_any, begun_state}
+use Rattle.wm_machine.specs.exact.MemberSteps.{segment_begun, segment_unfinished}
 use Rattle.std.proofs.lemmas.Bool.{cond_both}
 use Rattle.std.specs.Prelude.{slice_index}
 use Rattle.std.specs.Str.{is_utf8}
@@ -46,11 +50,11 @@ use Rattle.wm_machine.specs.MarkedForms.{Then, Vector}
 use Rattle.wm_machine.specs.Sections.{header}
 use Rattle.wm_machine.specs.Grammar.{Code, Run, Expression, strict, loose}
 use Rattle.wm_machine.specs.Meanings.{MustStand, IsEntry, BeginsEntry, OtherBodySize}
-use Rattle.wm_machine.specs.exact.Members.{section_kind_of, member_at_start}
+use Rattle.wm_machine.specs.exact.Members.{rank_of, section_kind_of, member_at_start}
 use Rattle.wm_machine.specs.exact.ValueSteps.{value_type_of, global_type_push, value_push}
 use Rattle.wm_machine.specs.exact.ExpressionSteps.{start, expression_step}
 use Rattle.wm_machine.specs.exact.MemberSteps.{on_number, on_value, on_type, with_item_given, after_param, after_result, after_name, after_length, name_step, functions_or_over, index_item, after_index, constant_over, after_constant, data_or_over, list_or_over, entry_step, member_in_entry, member_step}
-use Rattle.wm_machine.specs.exact.Steps.{counts_in, begun_last, custom_after_length, machine_in_custom, custom_step, machine_in_member, machine_after_count, machine_after_paired_count, after_count, begun_section, machine_if_rising, section_start, machine_in_contents, after_size, custom_size, header_step, step_of}
+use Rattle.wm_machine.specs.exact.Steps.{counts_in, is_given, begun_last, custom_after_length, machine_in_custom, custom_step, machine_in_member, machine_after_count, machine_after_paired_count, after_count, begun_section, machine_if_rising, section_start, machine_in_contents, after_size, custom_size, header_step, step_of}
 use Rattle.wm_machine.specs.exact.Runs.{byte_read, ByteRead, MachineState, zone_of, after_byte, state_after, state_at_start}
 use Rattle.wm_machine.specs.exact.Live.{IsRefused}
 use Rattle.wm_machine.proofs.ByteLists.{front_bytes}
@@ -142,6 +146,7 @@ index_out index.Segment = tt
 over_out : (of : ConstantOf) → IsOutside (constant_over of)
 over_out constant.Global = tt
 over_out constant.Element = tt
+over_out constant.IndexedElement = tt
 over_out constant.Segment = tt
 
 constant_out : (of : ConstantOf) (e : InExpression) → IsOutside (after_constant of e)
@@ -174,6 +179,9 @@ step_stays p c (at.NameLength of r) o = number_out (unsigned_push 32 r c) (λ s.
 step_stays p c (at.Name of more) o = name_step_out of more
 step_stays p c (at.Value v) o = value_out (value_push p v c) at.Value (λ q. with_item_given at.Over q) (λ s. tt) (λ x. tt)
 step_stays p c (at.Index of r) o = number_out (unsigned_push 32 r c) (λ s. at.Index of s) (λ n. with_item_given (after_index of) (index_item of n)) (λ s. tt) (λ n. index_out of)
+step_stays p c (at.SegmentStart of r) o =
+    number_out (unsigned_push 32 r c) (segment_unfinished (has p BulkMemory) of) (segment_begun (has p BulkMemory) of) (λ s. unfinished_any IsOutside (has p BulkMemory) of s tt tt) (begun_state IsOutside tt tt tt tt tt tt tt (has p BulkMemory) of)
+step_stays p c at.ElementKind o = cond_both (nat_eq c 0x00) _ _ (λ (m : InMember × Event). IsOutside m.0) (λ _. tt) (λ _. tt)
 step_stays p c (at.GlobalType g) o = value_out (global_type_push p g c) at.GlobalType (λ t. with_item_given (at.Constant constant.Global start) (plain.Global t)) (λ s. tt) (λ x. tt)
 step_stays p c (at.Constant of e) o = constant_out of (expression_step p e c).0
 step_stays p c (at.Length of r) o = number_out (unsigned_push 32 r c) (λ s. at.Length of s) (λ n. (list_or_over of n, event.Nothing)) (λ s. tt) (list_out of)
@@ -328,6 +336,7 @@ module _ (p : Profile) where
 
     begins_so : (of : SectionKind) (b : List ℕ) → Becomes (member_at_start of) b
     begins_so section_kind.Code b = inr refl
+    begins_so section_kind.DataCount b = tt
     begins_so section_kind.Type b = tt
     begins_so section_kind.Import b = tt
     begins_so section_kind.Function b = tt
@@ -355,6 +364,8 @@ module _ (p : Profile) where
     counted_so : (of : SectionKind) (counts : Counts) (bytes n : ℕ) (b : List ℕ) → BecomesIn (machine_after_paired_count of counts bytes n) b
     counted_so section_kind.Function counts bytes n b = listed_so section_kind.Function (counts_in section_kind.Function counts n) bytes n b
     counted_so section_kind.Code counts bytes n b = cond_both (nat_eq n counts.functions) _ _ (λ (m : Machine). BecomesIn m b) (λ _. listed_so section_kind.Code (counts_in section_kind.Code counts n) bytes n b) (λ _. tt)
+    counted_so section_kind.DataCount counts bytes n b = listed_so section_kind.DataCount (counts_in section_kind.DataCount counts n) bytes zero b
+    counted_so section_kind.Segment counts bytes n b = cond_both (is_given counts.segments n) _ _ (λ (m : Machine). BecomesIn m b) (λ _. listed_so section_kind.Segment (counts_in section_kind.Segment counts n) bytes n b) (λ _. tt)
     counted_so of counts bytes n b = listed_so of (counts_in of counts n) bytes n b
 
     count_so : (of : SectionKind) (counts : Counts) (more : ℕ) (x : Step ℕ × Partial) (b : List ℕ) → BecomesIn (after_count of counts more x).0 b
@@ -390,13 +401,13 @@ module _ (p : Profile) where
         at_last (suc n) = tt
     begun_so of counts b = tt
 
-    rising_so : (last : ℕ) (counts : Counts) (id : ℕ) (q : Option SectionKind) (b : List ℕ) → BecomesIn (machine_if_rising last counts id q).0 b
-    rising_so last counts id None b = tt
-    rising_so last counts id (Some of) b = cond_both (nat_le id last) _ _ (λ (q : Machine × Event). BecomesIn q.0 b) (λ _. tt) (λ _. begun_so of counts b)
+    rising_so : (last : ℕ) (counts : Counts) (q : Option SectionKind) (b : List ℕ) → BecomesIn (machine_if_rising last counts q).0 b
+    rising_so last counts None b = tt
+    rising_so last counts (Some of) b = cond_both (nat_le (rank_of of) last) _ _ (λ (q : Machine × Event). BecomesIn q.0 b) (λ _. tt) (λ _. begun_so of counts b)
 
-    start_so : (last : ℕ) (counts : Counts) (d : ℕ) (b : List ℕ) → BecomesIn (section_start last counts d).0 b
+    start_so : (last : ℕ) (counts : Counts) (d : ℕ) (b : List ℕ) → BecomesIn (section_start p last counts d).0 b
     start_so last counts zero b = tt
-    start_so last counts (suc m) b = rising_so last counts (suc m) (section_kind_of (suc m)) b
+    start_so last counts (suc m) b = rising_so last counts (section_kind_of p (suc m)) b
 
     header_so : (n d : ℕ) (b : List ℕ) → BecomesIn (header_step n d).0 b
     header_so n d b =
@@ -538,7 +549,7 @@ module _ (p : Profile) where
     machine_ends m f live h =
         let X : Type 0 = OtherBodySize p (b ++ c ∷ []) in
         let P : Machine → Type 0 = λ n. n ≡ machine.Refused why.BodyEnd → X in
-        step_at P (λ n i e. absurd (not_live n why.BodyEnd i e)) (λ e. absurd (cc)) (λ e. absurd (cc)) (λ e. absurd (cc)) (λ e. absurd (cc)) (λ e. absurd (cc)) p m c
+        step_at P (λ n i e. absurd (not_live n why.BodyEnd i e)) (λ e. absurd (cc)) (λ e. absurd (cc)) (λ e. absurd (cc)) (λ e. absurd (cc)) (λ e. absurd (cc)) (λ e. absurd (cc)) p m c
         (λ i. i) (λ w s e. absurd (live (subst IsRefused (sym s) tt)))
         (λ q w s e. absurd (custom_not q c (s ∙ ap custom.Failed (same_refused w why.BodyEnd e))))
         (λ of counts more left q w s i e. in_section of counts more left q (subst (Fits p) s f) (subst (λ n. PlacedIn n b) s h) (i ∙ ap at.Failed (same_refused w why.BodyEnd e)))

@@ -5,18 +5,19 @@ use Rattle.wm_syntax.specs.declared.profile.Profile.{Profile}
 use Rattle.wm_syntax.specs.exact.Reading.{fresh}
 use Rattle.wm_machine.specs.Items.{Marks}
 use Rattle.wm_machine.specs.MarkedForms.{MarkedForm, MarkedByte, Then, Times, Counted, MarkedNumber, Name, Sized, Filled, nothing_at, outside_mark}
-use Rattle.wm_machine.specs.Grammar.{Contents, Section, Custom, Customs, MayMiss, Optional, Chain}
+use Rattle.wm_machine.specs.Grammar.{ModuleCounts, HasSection, Contents, Section, Custom, Customs, MayMiss, Optional, Chain, id_at}
 use Rattle.wm_machine.proofs.FirstBytes.{Next, HasBytes, head_same, not_nil, same_refl, next_from, next_byte, byte_has, then_has, then_assoc, ends_first}
 use Rattle.wm_machine.proofs.Numbers.{Left}
 use Rattle.wm_machine.proofs.Counts.{counted_fresh}
 use Rattle.wm_machine.proofs.Customs.{unnamed}
+use Rattle.wm_machine.proofs.Ranks.{rank_at, rank_is, same_rank}
 
 -- what holds besides
 abbrev pub Where : Type 0 → MarkedForm → MarkedForm
 Where C P b k = C × P b k
 
--- the sections of these ids may be left out
-abbrev pub Missing : (f low high : ℕ) → Type 0
+-- the sections of these ranks may be left out
+abbrev pub Missing : (f : ModuleCounts) (low high : ℕ) → Type 0
 Missing f low high = (i : ℕ) → low ≤ i → i < high → MayMiss f i
 
 pub same_or_more : (a b : ℕ) → a ≤ b → (a ≡ b) ⊎ (a < b)
@@ -25,16 +26,16 @@ same_or_more a b h = (elim (nat_lt a b) as (λ v. nat_lt a b ≡ v → (a ≡ b)
   | false ↦ λ e. inl (let g : b ≤ a = ltb-false a b e in omega (arith, g, h))
 ]) refl
 
-missing_more : (f low high : ℕ) → MayMiss f low → Missing f (suc low) high → Missing f low high
+missing_more : (f : ModuleCounts) (low high : ℕ) → MayMiss f low → Missing f (suc low) high → Missing f low high
 missing_more f low high m h i above below = elim (same_or_more low i above) [
   | inl e ↦ subst (λ y. MayMiss f y) e m
   | inr a ↦ h i (omega (arith, a)) below
 ]
 
-missing_none : (f low high : ℕ) → high ≤ low → Missing f low high
+missing_none : (f : ModuleCounts) (low high : ℕ) → high ≤ low → Missing f low high
 missing_none f low high none i above below = absurd (omega (arith, none, above, below))
 
-module _ (demanded : Type 0) (p : Profile) (f : ℕ) where
+module _ (demanded : Type 0) (p : Profile) (f : ModuleCounts) where
   -- the size of a section other than a custom one, and its contents
   abbrev Sizes : ℕ → MarkedForm
   Sizes id = MarkedNumber nothing_at (λ n. Sized demanded n (Contents demanded p f id))
@@ -107,12 +108,12 @@ module _ (demanded : Type 0) (p : Profile) (f : ℕ) where
   pub left_out : (count id : ℕ) → MayMiss f id → (b : List ℕ) (k : Marks) → Sections count (suc id) b k → Sections (suc count) id b k
   left_out count id may b k h = none_first b k (record { front = []; back = b; front_marks = []; back_marks = k; bytes = refl; marks = refl; first = inr (may, (refl, refl)); second = h })
 
-  present : (count id : ℕ) (b : List ℕ) (k : Marks) → Then (Section demanded p f id) (Sections count (suc id)) b k → Sections (suc count) id b k
-  present count id b k h = none_first b k (record { front = h.front; back = h.back; front_marks = h.front_marks; back_marks = h.back_marks; bytes = h.bytes; marks = h.marks; first = inl h.first; second = h.second })
+  present : (count id : ℕ) → HasSection p id → (b : List ℕ) (k : Marks) → Then (Section demanded p f id) (Sections count (suc id)) b k → Sections (suc count) id b k
+  present count id has b k h = none_first b k (record { front = h.front; back = h.back; front_marks = h.front_marks; back_marks = h.back_marks; bytes = h.bytes; marks = h.marks; first = inl (has, h.first); second = h.second })
 
-  optional_split : (count id : ℕ) (b : List ℕ) (k : Marks) → Then (Optional demanded p f id) (Sections count (suc id)) b k → Then (Section demanded p f id) (Sections count (suc id)) b k ⊎ (MayMiss f id × Sections count (suc id) b k)
+  optional_split : (count id : ℕ) (b : List ℕ) (k : Marks) → Then (Optional demanded p f id) (Sections count (suc id)) b k → (HasSection p id × Then (Section demanded p f id) (Sections count (suc id)) b k) ⊎ (MayMiss f id × Sections count (suc id) b k)
   optional_split count id b k h = elim h.first [
-    | inl s ↦ inl (record { front = h.front; back = h.back; front_marks = h.front_marks; back_marks = h.back_marks; bytes = h.bytes; marks = h.marks; first = s; second = h.second })
+    | inl s ↦ inl (s.0, record { front = h.front; back = h.back; front_marks = h.front_marks; back_marks = h.back_marks; bytes = h.bytes; marks = h.marks; first = s.1; second = h.second })
     | inr e ↦
         let eb : h.back ≡ b = sym (h.bytes ∙ ap (λ y. y ++ h.back) e.1.0) in
         let ek : h.back_marks ≡ k = sym (h.marks ∙ ap (λ y. y ++ h.back_marks) e.1.1) in
@@ -131,15 +132,15 @@ module _ (demanded : Type 0) (p : Profile) (f : ℕ) where
   times_split zero c b k h = absurd (not_nil c b h.0)
   times_split (suc n) c b k h = record { front = h.front; back = h.back; front_marks = h.front_marks; back_marks = h.back_marks; bytes = h.bytes; marks = h.marks; first = h.first; second = (n, h.second) }
 
-  no_zero : (id : ℕ) → 0 ≡ suc id → ⊥
-  no_zero id e = omega (arith, e)
+  no_zero : (rank : ℕ) → 0 ≡ id_at (suc rank) → ⊥
+  no_zero rank e = let z : 0 ≡ suc rank = same_rank 0 (suc rank) e in omega (arith, z)
 
   custom_of : (count id : ℕ) (b : List ℕ) (k : Marks) → Sections count (suc id) (0 ∷ b) k → Then (Custom demanded) (Sections count (suc id)) (0 ∷ b) k
   custom_of zero id b k h = times_split h.0 0 b k h.1
   custom_of (suc count) id b k h = elim (split (0 ∷ b) k h) [
     | inr c ↦ c
     | inl o ↦ elim (optional_split count (suc id) (0 ∷ b) k o) [
-      | inl s ↦ absurd (no_zero id (first_front (suc id) (Sizes (suc id)) (Sections count (suc (suc id))) 0 b k s))
+      | inl s ↦ absurd (no_zero id (first_front (id_at (suc id)) (Sizes (suc id)) (Sections count (suc (suc id))) 0 b k s.1))
       | inr e ↦ with_rest (Custom demanded) (Sections count (suc (suc id))) (Sections (suc count) (suc id)) (left_out count (suc id) e.0) (0 ∷ b) k (custom_of count (suc id) b k e.1)
     ]
   ]
@@ -157,67 +158,75 @@ module _ (demanded : Type 0) (p : Profile) (f : ℕ) where
 
   -- no custom section begins with another id
   not_custom : (Q : MarkedForm) (c : ℕ) (b : List ℕ) (k : Marks) → Then (Custom demanded) Q (suc c ∷ b) k → ⊥
-  not_custom Q c b k t = no_zero c (sym (first_front 0 (MarkedNumber nothing_at Nameless) Q (suc c) b k t))
+  not_custom Q c b k t = let z : suc c ≡ 0 = first_front 0 (MarkedNumber nothing_at Nameless) Q (suc c) b k t in omega (arith, z)
 
   -- which first bytes there may be
-  first_id : (count id c : ℕ) (b : List ℕ) (k : Marks) → Sections count id (suc c ∷ b) k → (id ≤ suc c) × (suc c < id + count)
-  first_id zero id c b k h = absurd (not_custom (Customs demanded) c b k (times_split h.0 (suc c) b k h.1))
-  first_id (suc count) id c b k h = elim (split (suc c ∷ b) k h) [
-    | inr t ↦ absurd (not_custom (Then (Customs demanded) (Then (Optional demanded p f id) (Sections count (suc id)))) c b k t)
-    | inl o ↦ elim (optional_split count id (suc c ∷ b) k o) [
-      | inl s ↦ let e : suc c ≡ id = first_front id (Sizes id) (Sections count (suc id)) (suc c) b k s in (omega (arith, e), omega (arith, e))
-      | inr m ↦ let r = first_id count (suc id) c b k m.1 in (omega (arith, r.0), omega (arith, r.1))
+  first_rank : (count rank c : ℕ) (b : List ℕ) (k : Marks) → Sections count rank (suc c ∷ b) k → (rank ≤ rank_at (suc c)) × (rank_at (suc c) < rank + count) × HasSection p (rank_at (suc c))
+  first_rank zero rank c b k h = absurd (not_custom (Customs demanded) c b k (times_split h.0 (suc c) b k h.1))
+  first_rank (suc count) rank c b k h = elim (split (suc c ∷ b) k h) [
+    | inr t ↦ absurd (not_custom (Then (Customs demanded) (Then (Optional demanded p f rank) (Sections count (suc rank)))) c b k t)
+    | inl o ↦ elim (optional_split count rank (suc c ∷ b) k o) [
+      | inl s ↦
+          let e : rank_at (suc c) ≡ rank = rank_is (suc c) rank (first_front (id_at rank) (Sizes rank) (Sections count (suc rank)) (suc c) b k s.1) in
+          (omega (arith, e), omega (arith, e), subst (HasSection p) (sym e) s.0)
+      | inr m ↦ let r = first_rank count (suc rank) c b k m.1 in (omega (arith, r.0), omega (arith, r.1), r.2)
     ]
   ]
 
   -- the sections in between are missing
-  abbrev Found : (count id c : ℕ) (b : List ℕ) → Marks → Type 0
-  Found count id c b k = Missing f id (suc c) × Then (Section demanded p f (suc c)) (Sections count (suc (suc c))) (suc c ∷ b) k
+  abbrev Found : (count low rank c : ℕ) (b : List ℕ) → Marks → Type 0
+  Found count low rank c b k = (HasSection p rank × Missing f low rank) × Then (Section demanded p f rank) (Sections count (suc rank)) (suc c ∷ b) k
 
-  section_of : (j count id c : ℕ) → suc c ≡ id + j → (b : List ℕ) (k : Marks) → Sections (suc (j + count)) id (suc c ∷ b) k → Found count id c b k
-  section_of zero count id c e b k h =
-      let i : id ≡ suc c = omega (arith, e) in
-      let h' : Sections (suc count) (suc c) (suc c ∷ b) k = subst (λ y. Sections (suc count) y (suc c ∷ b) k) i (subst (λ y. Sections (suc y) id (suc c ∷ b) k) (let z : 0 + count ≡ count = omega arith in z) h) in
+  section_of : (j count low rank c : ℕ) → suc c ≡ id_at rank → rank ≡ low + j → (b : List ℕ) (k : Marks) → Sections (suc (j + count)) low (suc c ∷ b) k → Found count low rank c b k
+  section_of zero count low rank c id e b k h =
+      let i : low ≡ rank = omega (arith, e) in
+      let h' : Sections (suc count) rank (suc c ∷ b) k = subst (λ y. Sections (suc count) y (suc c ∷ b) k) i (subst (λ y. Sections (suc y) low (suc c ∷ b) k) (let z : 0 + count ≡ count = omega arith in z) h) in
       elim (split (suc c ∷ b) k h') [
-        | inr t ↦ absurd (not_custom (Then (Customs demanded) (Then (Optional demanded p f (suc c)) (Sections count (suc (suc c))))) c b k t)
-        | inl o ↦ elim (optional_split count (suc c) (suc c ∷ b) k o) [
-          | inl s ↦ (missing_none f id (suc c) (omega (arith, i)), s)
-          | inr m ↦ let r = first_id count (suc (suc c)) c b k m.1 in absurd (omega (arith, r.0))
+        | inr t ↦ absurd (not_custom (Then (Customs demanded) (Then (Optional demanded p f rank) (Sections count (suc rank)))) c b k t)
+        | inl o ↦ elim (optional_split count rank (suc c ∷ b) k o) [
+          | inl s ↦ ((s.0, missing_none f low rank (omega (arith, i))), s.1)
+          | inr m ↦ let r = first_rank count (suc rank) c b k m.1 in absurd (omega (arith, r.0, rank_is (suc c) rank id))
         ]
       ]
-  section_of (suc j) count id c e b k h =
+  section_of (suc j) count low rank c id e b k h =
       elim (split (suc c ∷ b) k h) [
-        | inr t ↦ absurd (not_custom (Then (Customs demanded) (Then (Optional demanded p f id) (Sections (suc j + count) (suc id)))) c b k t)
-        | inl o ↦ elim (optional_split (suc j + count) id (suc c ∷ b) k o) [
-          | inl s ↦ let r : suc c ≡ id = first_front id (Sizes id) (Sections (suc j + count) (suc id)) (suc c) b k s in absurd (omega (arith, r, e))
+        | inr t ↦ absurd (not_custom (Then (Customs demanded) (Then (Optional demanded p f low) (Sections (suc j + count) (suc low)))) c b k t)
+        | inl o ↦ elim (optional_split (suc j + count) low (suc c ∷ b) k o) [
+          | inl s ↦
+              let r : suc c ≡ id_at low = first_front (id_at low) (Sizes low) (Sections (suc j + count) (suc low)) (suc c) b k s.1 in
+              let same : low ≡ rank = same_rank low rank (sym r ∙ id) in
+              absurd (omega (arith, same, e))
           | inr m ↦
-              let i : suc c ≡ suc id + j = omega (arith, e) in
-              let r = section_of j count (suc id) c i b k (subst (λ y. Sections y (suc id) (suc c ∷ b) k) (let z : suc j + count ≡ suc (j + count) = omega arith in z) m.1) in
-              (missing_more f id (suc c) m.0 r.0, r.1)
+              let i : rank ≡ suc low + j = omega (arith, e) in
+              let r = section_of j count (suc low) rank c id i b k (subst (λ y. Sections y (suc low) (suc c ∷ b) k) (let z : suc j + count ≡ suc (j + count) = omega arith in z) m.1) in
+              ((r.0.0, missing_more f low rank m.0 r.0.1), r.1)
         ]
       ]
 
-  of_section : (j count id c : ℕ) → suc c ≡ id + j → Missing f id (suc c) → (b : List ℕ) (k : Marks) → Then (Section demanded p f (suc c)) (Sections count (suc (suc c))) b k → Sections (suc (j + count)) id b k
-  of_section zero count id c e may b k h =
-      let i : suc c ≡ id = omega (arith, e) in
-      subst (λ y. Sections (suc y) id b k) (let z : count ≡ 0 + count = omega arith in z) (subst (λ y. Sections (suc count) y b k) i (present count (suc c) b k h))
-  of_section (suc j) count id c e may b k h =
-      let i : suc c ≡ suc id + j = omega (arith, e) in
-      let below : id < suc c = omega (arith, e) in
-      left_out (suc j + count) id (may id (omega arith) below) b k
-      (subst (λ y. Sections y (suc id) b k) (let z : suc (j + count) ≡ suc j + count = omega arith in z)
-      (of_section j count (suc id) c i (λ m low high. may m (omega (arith, low)) high) b k h))
+  of_section : (j count low rank : ℕ) → rank ≡ low + j → HasSection p rank → Missing f low rank → (b : List ℕ) (k : Marks) → Then (Section demanded p f rank) (Sections count (suc rank)) b k → Sections (suc (j + count)) low b k
+  of_section zero count low rank e has may b k h =
+      let i : rank ≡ low = omega (arith, e) in
+      subst (λ y. Sections (suc y) low b k) (let z : count ≡ 0 + count = omega arith in z) (subst (λ y. Sections (suc count) y b k) i (present count rank has b k h))
+  of_section (suc j) count low rank e has may b k h =
+      let i : rank ≡ suc low + j = omega (arith, e) in
+      let below : low < rank = omega (arith, e) in
+      left_out (suc j + count) low (may low (omega arith) below) b k
+      (subst (λ y. Sections y (suc low) b k) (let z : suc (j + count) ≡ suc j + count = omega arith in z)
+      (of_section j count (suc low) rank i has (λ m at_least high. may m (omega (arith, at_least)) high) b k h))
 
-  pub section_goes : (j count id c : ℕ) → suc c ≡ id + j → Next demanded (Sections (suc (j + count)) id) (suc c) (outside_mark None) (Where (Missing f id (suc c)) (InSection (suc c) (Sections count (suc (suc c)))))
-  section_goes j count id c e =
-      let g = section_next (suc c) (λ n. Sized demanded n (Contents demanded p f (suc c))) (Sections count (suc (suc c))) in
+  pub section_goes : (j count low rank c : ℕ) → suc c ≡ id_at rank → rank ≡ low + j → Next demanded (Sections (suc (j + count)) low) (suc c) (outside_mark None) (Where (HasSection p rank × Missing f low rank) (InSection rank (Sections count (suc rank))))
+  section_goes j count low rank c id e =
+      let S : MarkedForm = Then (Section demanded p f rank) (Sections count (suc rank)) in
+      let g : Next demanded S (suc c) (outside_mark None) (InSection rank (Sections count (suc rank))) =
+      subst (λ y. Next demanded S y (outside_mark None) (InSection rank (Sections count (suc rank)))) (sym id)
+      (section_next (id_at rank) (λ n. Sized demanded n (Contents demanded p f rank)) (Sections count (suc rank))) in
       record {
-        to = λ s b k h. let r = section_of j count id c e b k h in let t = g.to s b k r.1 in (t.0, t.1, (r.0, t.2));
-        from = λ b k h. of_section j count id c e h.2.0 (suc c ∷ b) k (g.from b k (h.0, h.1, h.2.1));
+        to = λ s b k h. let r = section_of j count low rank c id e b k h in let t = g.to s b k r.1 in (t.0, t.1, (r.0, t.2));
+        from = λ b k h. of_section j count low rank e h.2.0.0 h.2.0.1 (suc c ∷ b) k (g.from b k (h.0, h.1, h.2.1));
       }
 
-  pub not_first : (count id c : ℕ) (b : List ℕ) (k : Marks) → (id ≤ suc c → suc c < id + count → ⊥) → Sections count id (suc c ∷ b) k → ⊥
-  not_first count id c b k none h = let r = first_id count id c b k h in none r.0 r.1
+  pub not_first : (count rank c : ℕ) (b : List ℕ) (k : Marks) → (rank ≤ rank_at (suc c) → rank_at (suc c) < rank + count → HasSection p (rank_at (suc c)) → ⊥) → Sections count rank (suc c ∷ b) k → ⊥
+  not_first count rank c b k none h = let r = first_rank count rank c b k h in none r.0 r.1 r.2
 
   -- the sections may be over
   no_times : (n : ℕ) (k : Marks) → Times n (Custom demanded) [] k → k ≡ []
@@ -225,14 +234,14 @@ module _ (demanded : Type 0) (p : Profile) (f : ℕ) where
   no_times (suc n) k h = absurd (then_has (Unit {0}) (Custom demanded) (Times n (Custom demanded)) (id_has 0 (MarkedNumber nothing_at Nameless)) tt k h)
 
   no_section : (id : ℕ) (Q : MarkedForm) → HasBytes (Unit {0}) (Then (Section demanded p f id) Q)
-  no_section id Q = then_has (Unit {0}) (Section demanded p f id) Q (id_has id (Sizes id))
+  no_section id Q = then_has (Unit {0}) (Section demanded p f id) Q (id_has (id_at id) (Sizes id))
 
   pub over_missing : (count id : ℕ) (k : Marks) → Sections count id [] k → (k ≡ []) × Missing f id (id + count)
   over_missing zero id k h = (no_times h.0 k h.1, missing_none f id (id + 0) (omega arith))
   over_missing (suc count) id k h = elim (split [] k h) [
     | inr t ↦ absurd (then_has (Unit {0}) (Custom demanded) (Then (Customs demanded) (Then (Optional demanded p f id) (Sections count (suc id)))) (id_has 0 (MarkedNumber nothing_at Nameless)) tt k t)
     | inl o ↦ elim (optional_split count id [] k o) [
-      | inl s ↦ absurd (no_section id (Sections count (suc id)) tt k s)
+      | inl s ↦ absurd (no_section id (Sections count (suc id)) tt k s.1)
       | inr m ↦
           let r = over_missing count (suc id) k m.1 in
           (r.0, missing_more f id (id + suc count) m.0 (λ i low high. r.1 i low (omega (arith, high))))
@@ -244,10 +253,19 @@ module _ (demanded : Type 0) (p : Profile) (f : ℕ) where
   over (suc count) id may = left_out count id (may id) [] [] (over count (suc id) may)
 
 -- after code nothing speaks of the number of functions
-pub renumbered : (demanded : Type 0) (p : Profile) (f g : ℕ) (b : List ℕ) (k : Marks) → Chain demanded p f 1 11 b k → Chain demanded p g 1 11 b k
-renumbered demanded p f g b k h =
+pub renumbered : (demanded : Type 0) (p : Profile) (f : ModuleCounts) (n : ℕ) (b : List ℕ) (k : Marks) → Chain demanded p f 1 12 b k → Chain demanded p (record { functions = n; segments = f.segments }) 1 12 b k
+renumbered demanded p f n b k h =
     let t = h.second in
-    record { front = h.front; back = h.back; front_marks = h.front_marks; back_marks = h.back_marks; bytes = h.bytes; marks = h.marks; first = h.first; second = record { front = t.front; back = t.back; front_marks = t.front_marks; back_marks = t.back_marks; bytes = t.bytes; marks = t.marks; first = elim t.first [ inl s ↦ inl s | inr e ↦ inr (last, e.1) ]; second = t.second } }
+    record {
+      front = h.front;
+      back = h.back;
+      front_marks = h.front_marks;
+      back_marks = h.back_marks;
+      bytes = h.bytes;
+      marks = h.marks;
+      first = h.first;
+      second = record { front = t.front; back = t.back; front_marks = t.front_marks; back_marks = t.back_marks; bytes = t.bytes; marks = t.marks; first = elim t.first [ inl s ↦ inl s | inr e ↦ inr (((λ i. last 12 refl i), e.0.1), e.1) ]; second = t.second };
+    }
   where
-    last : MayMiss g 11
-    last e = elim e [ inl a ↦ absurd (omega (arith, a)) | inr a ↦ absurd (omega (arith, a)) ]
+    last : (rank : ℕ) → rank ≡ 12 → (rank ≡ 3) ⊎ (rank ≡ 11) → n ≡ 0
+    last rank is e = elim e [ inl a ↦ absurd (omega (arith, is, a)) | inr a ↦ absurd (omega (arith, is, a)) ]

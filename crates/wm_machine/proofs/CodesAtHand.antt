@@ -1,12 +1,13 @@
 -- The code behind FC that a state is in: its bytes so far are the last that were read.
 use Rattle.std.proofs.Common.{◌≡◌, ℕ, zero, suc, ◌+◌, ◌-◌, ◌≤◌, false, List, [], ◌∷◌, ◌++◌, Option, Result, Ok, Err, refl, sym, ◌∙◌, ap, subst, arith, nat_eq, nat_lt, nat_le, append_assoc, append-nil}
+use Rattle.wm_syntax.specs.declared.profile.Feature.TheVariants.{BulkMemory}
+use Rattle.wm_machine.proofs.SegmentStarts.{unfinished_any, begun_state}
 use Rattle.std.specs.Prelude.{slice_index, Some, None as Nothing}
 use Rattle.std.specs.Str.{is_utf8}
 use Rattle.std.proofs.lemmas.Bool.{cond_both, eqb-true, ltb-false}
 use Rattle.wm_syntax.specs.declared.why.Why.{Why}
 use Rattle.wm_syntax.specs.declared.why.Why.TheVariants as why
 use Rattle.wm_syntax.specs.declared.profile.Profile.{Profile}
-use Rattle.wm_syntax.specs.declared.profile.Feature.TheVariants.{LongIndex}
 use Rattle.wm_syntax.specs.Profiles.{has, has_prefix}
 use Rattle.wm_syntax.specs.declared.types.ValType.{ValType}
 use Rattle.wm_syntax.specs.declared.numbers.Step.{Step}
@@ -19,10 +20,11 @@ use Rattle.wm_syntax.specs.declared.instructions.Op.TheVariants as op
 use Rattle.wm_syntax.specs.declared.instructions.op_class.OpClass.{OpClass}
 use Rattle.wm_syntax.specs.declared.instructions.op_class.OpClass.TheVariants.{Plain as APlain, With, Float, None as NoClass}
 use Rattle.wm_syntax.specs.declared.instructions.op_class.Immediates.{Immediates}
+use Rattle.wm_syntax.specs.declared.instructions.op_class.MemoryOp.TheVariants as memory
 use Rattle.wm_syntax.specs.declared.instructions.op_class.Immediates.TheVariants as k
 use Rattle.wm_machine.specs.declared.step.reading.Reading.{Reading}
 use Rattle.wm_machine.specs.declared.step.reading.Reading.TheVariants.{More, Done, Bad}
-use Rattle.wm_machine.specs.declared.step.ops.BlockOp.{BlockOp}
+use Rattle.wm_syntax.specs.declared.instructions.op_class.BlockOp.{BlockOp}
 use Rattle.wm_machine.specs.declared.step.ops.InOp.{InOp}
 use Rattle.wm_machine.specs.declared.step.ops.InOp.TheVariants as in_op
 use Rattle.wm_machine.specs.declared.step.expressions.InExpression.{InExpression}
@@ -51,14 +53,17 @@ use Rattle.wm_machine.specs.declared.machine.member.InMember.{InMember}
 use Rattle.wm_machine.specs.declared.machine.member.InMember.TheVariants as at
 use Rattle.wm_machine.specs.Items.{Zone}
 use Rattle.wm_machine.specs.Sections.{header}
-use Rattle.wm_machine.specs.exact.Members.{section_kind_of, member_at_start}
+use Rattle.wm_machine.specs.exact.Members.{rank_of, section_kind_of, member_at_start}
 use Rattle.wm_machine.specs.exact.ValueSteps.{value_type_of, read_type, global_type_push, run_push, value_push}
-use Rattle.wm_machine.specs.exact.OpSteps.{block_op, memory_op, on_answer, immediates, class_step, begin_step, padded, code_step, more_padding, padding_step, block_step, closing_step, long_step, op_push}
+use Rattle.wm_machine.specs.exact.OpSteps.{init_op, on_answer, immediates, class_step, begin_step, padded, code_step, more_padding, padding_step, block_step, closing_step, table_feature, after_table, long_step, op_push}
+use Rattle.wm_syntax.specs.exact.OpShapes.{block_op, memory_op}
 use Rattle.wm_machine.specs.exact.ExpressionSteps.{start, ends as op_ends, after_op, after_label, after_reading, expression_failed, expression_step}
 use Rattle.wm_machine.specs.exact.MemberSteps.{on_number, on_value, on_type, with_item_given, after_param, after_result, after_name, after_length, name_step, functions_or_over, after_index, constant_over, after_constant, data_or_over, list_or_over, runs_or_body, entry_after_op, entry_step, member_in_entry, member_step}
-use Rattle.wm_machine.specs.exact.Steps.{counts_in, begun_last, custom_step, machine_in_custom, machine_in_member, machine_after_count, machine_after_paired_count, after_count, begun_section, machine_if_rising, section_start, after_size, header_step, step_of}
+use Rattle.wm_machine.specs.exact.Steps.{counts_in, is_given, begun_last, custom_step, machine_in_custom, machine_in_member, machine_after_count, machine_after_paired_count, after_count, begun_section, machine_if_rising, section_start, after_size, header_step, step_of}
 use Rattle.wm_machine.specs.exact.Runs.{byte_read, ByteRead, MachineState, zone_of, after_byte, state_after}
 use Rattle.wm_machine.proofs.MustStand.{eighties, padding}
+use Rattle.wm_machine.specs.declared.step.ops.TableOp.{TableOp}
+use Rattle.wm_machine.specs.declared.step.ops.TableOp.TheVariants as table_at
 
 abbrev pub EndsWith : List ℕ → List ℕ → Type 0
 EndsWith y b = (front : List ℕ) × (b ≡ front ++ y)
@@ -127,7 +132,8 @@ module _ (p : Profile) (c : ℕ) (b : List ℕ) where
   Read q = CodeReading q Now
 
   kind_code : (kind : Immediates) → CodeOp (immediates kind) Now
-  kind_code k.Block = tt
+  kind_code (k.Memory memory.MemoryCopy) = tt
+  kind_code (k.Memory _) = tt
   kind_code _ = tt
 
   class_code : (class : OpClass) → Read (class_step class)
@@ -185,9 +191,15 @@ module _ (p : Profile) (c : ℕ) (b : List ℕ) where
   closing_code : (o : Op) → Read (closing_step o c)
   closing_code o = cond_both (nat_eq c 0x00) _ _ Read (λ _. tt) (λ _. tt)
 
-  long_code : (n left : ℕ) → Read (long_step n left c)
-  long_code n zero = tt
-  long_code n (suc left) = cond_both (nat_eq c 0x80) _ _ Read (λ _. tt) (λ _. tt)
+  after_code : (t : TableOp) → Read (after_table t)
+  after_code (table_at.Call n) = tt
+  after_code (table_at.Init n) = tt
+  after_code table_at.CopyTo = tt
+  after_code table_at.CopyFrom = tt
+
+  long_code : (t : TableOp) (left : ℕ) → Read (long_step t left c)
+  long_code t zero = tt
+  long_code t (suc left) = cond_both (nat_eq c 0x80) _ _ Read (λ _. tt) (λ _. tt)
 
   op_code : (r : InOp) → CodeOp r b → Read (op_push p r c)
   op_code in_op.First h = begin_code
@@ -196,7 +208,10 @@ module _ (p : Profile) (c : ℕ) (b : List ℕ) where
   op_code (in_op.BlockType i) h = block_code i
   op_code (in_op.Index i r) h = answer_code (unsigned_push 32 r c) _ _ (λ s. tt) (λ v. tt)
   op_code (in_op.CallType r) h = answer_code (unsigned_push 32 r c) _ _ (λ s. tt) (λ v. tt)
-  op_code (in_op.CallTable n left) h = cond_both (nat_eq c 0x00) _ _ Read (λ _. tt) (λ _. cond_both (has p LongIndex) _ _ Read (λ _. long_code n left) (λ _. tt))
+  op_code (in_op.Table t left) h = cond_both (nat_eq c 0x00) _ _ Read (λ _. after_code t) (λ _. cond_both (has p (table_feature t)) _ _ Read (λ _. long_code t left) (λ _. tt))
+  op_code (in_op.InitElement r) h = answer_code (unsigned_push 32 r c) _ _ (λ s. tt) (λ v. tt)
+  op_code (in_op.InitSegment r) h = answer_code (unsigned_push 32 r c) _ _ (λ s. tt) (λ v. tt)
+  op_code (in_op.InitMemory n) h = closing_code (init_op n)
   op_code in_op.FirstZero h = cond_both (nat_eq c 0x00) _ _ Read (λ _. tt) (λ _. tt)
   op_code (in_op.Memory m) h = closing_code (memory_op m)
   op_code (in_op.Const32 r) h = answer_code (signed_push 32 r c) _ _ (λ s. tt) (λ v. tt)
@@ -329,6 +344,9 @@ module _ (p : Profile) (c : ℕ) (b : List ℕ) where
   member_code (at.Name of more) h = named_code of more
   member_code (at.Value v) h = value_code InMemberNow (value_push p v c) at.Value (λ q. with_item_given at.Over q) at.Failed (λ s. tt) (λ x. tt) (λ w. tt)
   member_code (at.Index of r) h = number_code InMemberNow (unsigned_push 32 r c) _ _ _ (λ s. tt) (λ n. index_code of) (λ w. tt)
+  member_code (at.SegmentStart of r) h =
+      number_code InMemberNow (unsigned_push 32 r c) _ _ _ (λ s. unfinished_any InMemberNow (has p BulkMemory) of s tt tt) (begun_state InMemberNow tt tt tt tt tt tt tt (has p BulkMemory) of) (λ w. tt)
+  member_code at.ElementKind h = cond_both (nat_eq c 0x00) _ _ (λ (x : InMember × Event). InMemberNow x.0) (λ _. tt) (λ _. tt)
   member_code (at.GlobalType g) h = value_code InMemberNow (global_type_push p g c) at.GlobalType (λ t. with_item_given (at.Constant constant.Global start) (plain.Global t)) at.Failed (λ s. tt) (λ x. tt) (λ w. tt)
   member_code (at.Constant of e) h = constant_code of (expression_step p e c).0 (expression_code e h)
   member_code (at.Length of r) h = number_code InMemberNow (unsigned_push 32 r c) _ _ _ (λ s. tt) (list_code of) (λ w. tt)
@@ -368,6 +386,8 @@ module _ (p : Profile) (c : ℕ) (b : List ℕ) where
   paired_code : (of : SectionKind) (counts : Counts) (bytes n : ℕ) → CodeMachine (machine_after_paired_count of counts bytes n) Now
   paired_code section_kind.Function counts bytes n = listed_code section_kind.Function (counts_in section_kind.Function counts n) bytes n
   paired_code section_kind.Code counts bytes n = cond_both (nat_eq n counts.functions) _ _ InMachineNow (λ _. listed_code section_kind.Code (counts_in section_kind.Code counts n) bytes n) (λ _. tt)
+  paired_code section_kind.DataCount counts bytes n = listed_code section_kind.DataCount (counts_in section_kind.DataCount counts n) bytes zero
+  paired_code section_kind.Segment counts bytes n = cond_both (is_given counts.segments n) _ _ InMachineNow (λ _. listed_code section_kind.Segment (counts_in section_kind.Segment counts n) bytes n) (λ _. tt)
   paired_code of counts bytes n = listed_code of (counts_in of counts n) bytes n
 
   count_code : (of : SectionKind) (counts : Counts) (more : ℕ) (q : Step ℕ × Partial) → CodeMachine (after_count of counts more q).0 Now
@@ -389,13 +409,13 @@ module _ (p : Profile) (c : ℕ) (b : List ℕ) where
       at_last (suc n) = tt
   begun_code of counts = tt
 
-  rising_code : (last : ℕ) (counts : Counts) (id : ℕ) (q : Option SectionKind) → CodeMachine (machine_if_rising last counts id q).0 Now
-  rising_code last counts id Nothing = tt
-  rising_code last counts id (Some of) = cond_both (nat_le id last) _ _ (λ (q : Machine × Event). InMachineNow q.0) (λ _. tt) (λ _. begun_code of counts)
+  rising_code : (last : ℕ) (counts : Counts) (q : Option SectionKind) → CodeMachine (machine_if_rising last counts q).0 Now
+  rising_code last counts Nothing = tt
+  rising_code last counts (Some of) = cond_both (nat_le (rank_of of) last) _ _ (λ (q : Machine × Event). InMachineNow q.0) (λ _. tt) (λ _. begun_code of counts)
 
-  between_code : (last : ℕ) (counts : Counts) (d : ℕ) → CodeMachine (section_start last counts d).0 Now
+  between_code : (last : ℕ) (counts : Counts) (d : ℕ) → CodeMachine (section_start p last counts d).0 Now
   between_code last counts zero = tt
-  between_code last counts (suc m) = rising_code last counts (suc m) (section_kind_of (suc m))
+  between_code last counts (suc m) = rising_code last counts (section_kind_of p (suc m))
 
   header_code : (n : ℕ) → CodeMachine (header_step n c).0 Now
   header_code n =

@@ -74,7 +74,7 @@ module _ (c : ℕ) where
 
   past : (p : Profile) (m : Machine) → (IsHeader m → ⊥) → (IsRefused m → ⊥) → Fails (step_of p m c).0
   past p m behind live =
-      step_out Fails live_fails (λ e. cc) (λ e. cc) (λ e. cc) (λ e. cc) (λ e. cc) p m c behind
+      step_out Fails live_fails (λ e. cc) (λ e. cc) (λ e. cc) (λ e. cc) (λ e. cc) (λ e. cc) p m c behind
       (λ w e. absurd (live (subst IsRefused (sym e) tt)))
       (λ q w e. refused_by w (custom_fails q w e))
       (λ q w e. refused_by w (λ f. component_float c p q (e ∙ ap at.Failed f)))

@@ -1,6 +1,7 @@
 -- The meaning of the names of the format, for the bytes up to the offset of a refusal.
 use Rattle.std.proofs.Common.{◌≡◌, ◌≢◌, ℕ, zero, suc, ◌+◌, ◌<◌, ◌≤◌, ◌^◌, ◌⊎◌, inl, inr, List, [], ◌∷◌, ◌++◌, Option, Some, None, Result, Ok, Err, true, false, length, take, refl, sym, ◌∙◌, ap, subst, arith, append_assoc, append-nil, length-append, nat_eq, nat_lt, nat_le}
 use Rattle.std.proofs.lemmas.Bool.{cases_lt, cond_both, ltb-true, ltb-false, leb-true, eqb-false}
+use Rattle.std.specs.List.{AllByRecursion}
 use Rattle.std.specs.Prelude.{slice_index}
 use Rattle.std.specs.Str.{is_utf8}
 use Rattle.wm_syntax.specs.declared.profile.Profile.{Profile}
@@ -29,13 +30,13 @@ use Rattle.wm_machine.specs.Decoding.{Setting}
 use Rattle.wm_machine.specs.Items.{Item, data_byte, items_at}
 use Rattle.wm_machine.specs.Sections.{header}
 use Rattle.wm_machine.specs.Sinks.{and_then, all_taken}
-use Rattle.wm_machine.specs.exact.Members.{id_of, section_kind_of}
+use Rattle.wm_machine.specs.exact.Members.{id_of, rank_of, section_kind_of}
 use Rattle.wm_machine.specs.exact.MemberSteps.{on_number, member_step}
 use Rattle.wm_machine.specs.exact.Runs.{name_item, plain_item, marks, MachineState, state_after, state_at_start}
-use Rattle.wm_machine.specs.exact.Steps.{counts_in, begun_last, machine_after_count, machine_after_paired_count, after_count, begun_section, machine_if_rising, section_start, header_step, custom_step, custom_after_length, step_of}
+use Rattle.wm_machine.specs.exact.Steps.{counts_in, is_given, begun_last, machine_after_count, machine_after_paired_count, after_count, begun_section, machine_if_rising, section_start, header_step, custom_step, custom_after_length, step_of}
 use Rattle.wm_machine.specs.exact.Live.{answer_between, effect_of_maybe, name_taken, event_effect, Live, live_or_refused, live_from, live_byte, decoder_after, live_at_start, answer_at_end_of, answer_at_end, IsRefused}
 use Rattle.wm_machine.specs.inner.Answers.{answer_of}
-use Rattle.wm_machine.specs.Meanings.{RawSection, WrongInHeader, WrongId, IsUnknown, IsLate, HasFrom, EndsInSection, Declare, OtherCount, NoCode, OtherSize, OtherBodySize, WrongNumber, Wanted, WrongByte, IsNoInstruction, BeginsFloat, IsOtherByte, MeansOfFormat, MeaningOfFormat, IsRuleName, GivesRuleNames}
+use Rattle.wm_machine.specs.Meanings.{RawSection, WrongInHeader, WrongId, IsUnknown, IsLate, HasCount, HasFrom, EndsInSection, Declare, OtherCount, NoCode, NoData, OtherSize, OtherBodySize, WrongNumber, Wanted, WrongByte, IsNoInstruction, BeginsFloat, IsOtherByte, MeansOfFormat, MeaningOfFormat, IsRuleName, GivesRuleNames}
 use Rattle.wm_machine.proofs.ByteLists.{front_bytes}
 use Rattle.wm_machine.proofs.WrongBytes.{Found, Says as SaysOfByte}
 use Rattle.wm_machine.proofs.WrongMembers.{InInput, byte_says}
@@ -47,22 +48,24 @@ use Rattle.wm_machine.proofs.OpSound.{HasRoom, last_byte}
 use Rattle.wm_machine.proofs.OpenMembers.{zeros, zeros_length}
 use Rattle.wm_machine.proofs.MemberFloats.{IsMemberName, member_name}
 use Rattle.wm_machine.proofs.AfterTheHeader.{IsInSection, IsLive, listed_out, more_out, step_in}
-use Rattle.wm_machine.proofs.MachineStates.{FitsAt, Fits, run_fits, IsNamed, component_named}
+use Rattle.wm_machine.proofs.Ranks.{rank_at}
+use Rattle.wm_machine.proofs.MachineStates.{FitsAt, Fits, run_fits, IsNamed, component_named, rank_few, rank_some}
 use Rattle.wm_machine.proofs.MachineAndSink.{given_taken, used_of, Used, reached, state_of, begin_fits}
-use Rattle.wm_machine.proofs.FramedBytes.{Past, AtSize, InContents, CountsStand, Numbers, numbers, one_byte, all_up, Framed, run_framed}
+use Rattle.wm_machine.proofs.FramedBytes.{Past, AtSize, InContents, CountsStand, Given, Numbers, numbers, one_byte, all_up, Framed, run_framed}
 
 pub last_is_byte : (b : List ℕ) (c : ℕ) → AreBytes (b ++ c ∷ []) → c < 2 ^ 8
 last_is_byte [] c h = h.0
 last_is_byte (d ∷ b) c h = last_is_byte b c h.1
 
 -- what the machine says where it refuses a byte, which is the last of these
-abbrev pub MachineSays : List ℕ → Why → Type 0
-MachineSays used why.Magic = WrongInHeader 0 4 used
-MachineSays used why.Version = WrongInHeader 4 8 used
-MachineSays used why.SectionId = WrongId IsUnknown used
-MachineSays used why.SectionOrder = WrongId IsLate used
-MachineSays used why.CodeCount = (rest : List ℕ) → OtherCount used ⊎ NoCode used rest
-MachineSays used w = IsMemberName w
+abbrev pub MachineSays : Profile → List ℕ → Why → Type 0
+MachineSays p used why.Magic = WrongInHeader 0 4 used
+MachineSays p used why.Version = WrongInHeader 4 8 used
+MachineSays p used why.SectionId = WrongId (IsUnknown p) used
+MachineSays p used why.SectionOrder = WrongId (IsLate p) used
+MachineSays p used why.CodeCount = (rest : List ℕ) → OtherCount Declare 10 used ⊎ NoCode used rest
+MachineSays p used why.DataCount = (rest : List ℕ) → OtherCount (HasCount 12) 11 used ⊎ NoData used rest
+MachineSays p used w = IsMemberName w
 
 header_length : (n : ℕ) → n < 8 → length (take n header) ≡ n
 header_length zero l = refl
@@ -75,25 +78,12 @@ header_length (suc (suc (suc (suc (suc (suc zero)))))) l = refl
 header_length (suc (suc (suc (suc (suc (suc (suc zero))))))) l = refl
 header_length (suc (suc (suc (suc (suc (suc (suc (suc n)))))))) l = absurd (omega (arith, l))
 
-last_id : (of : SectionKind) → id_of of ≤ 11
-last_id section_kind.Type = omega arith
-last_id section_kind.Import = omega arith
-last_id section_kind.Function = omega arith
-last_id section_kind.Table = omega arith
-last_id section_kind.Memory = omega arith
-last_id section_kind.Global = omega arith
-last_id section_kind.Export = omega arith
-last_id section_kind.Start = omega arith
-last_id section_kind.Element = omega arith
-last_id section_kind.Code = omega arith
-last_id section_kind.Segment = omega arith
-
-module _ (used : List ℕ) where
+module _ (p : Profile) (used : List ℕ) where
   abbrev Says : Machine → Type 0
-  Says m = (w : Why) → m ≡ machine.Refused w → MachineSays used w
+  Says m = (w : Why) → m ≡ machine.Refused w → MachineSays p used w
 
-  by_name : (v : Why) → MachineSays used v → Says (machine.Refused v)
-  by_name v h w e = let same : v ≡ w = cc in subst (MachineSays used) same h
+  by_name : (v : Why) → MachineSays p used v → Says (machine.Refused v)
+  by_name v h w e = let same : v ≡ w = cc in subst (MachineSays p used) same h
 
   lives : (m : Machine) → IsLive m → Says m
   lives (machine.Refused v) i w e = absurd i
@@ -106,7 +96,7 @@ module _ (used : List ℕ) where
   lives (machine.Section of counts more left q) i w e = absurd (cc)
 
   -- the names of a member
-  of_member : (w : Why) → IsMemberName w → MachineSays used w
+  of_member : (w : Why) → IsMemberName w → MachineSays p used w
   of_member why.Float i = tt
   of_member why.BadNumber i = tt
   of_member why.BadByte i = tt
@@ -118,6 +108,7 @@ module _ (used : List ℕ) where
   of_member why.SectionId i = absurd i
   of_member why.SectionOrder i = absurd i
   of_member why.CodeCount i = absurd i
+  of_member why.DataCount i = absurd i
   of_member w i = i
 
   is_name : (w : Why) → (IsMemberName w) ⊎ (IsMemberName w → ⊥)
@@ -129,27 +120,27 @@ module _ (used : List ℕ) where
   is_name why.SectionEnd = inl tt
   is_name w = inr (λ i. i)
 
-  member_says : (p : Profile) (c : ℕ) (q : InMember) (w : Why) → (member_step p q c).0 ≡ at.Failed w → MachineSays used w
-  member_says p c q w e = elim (is_name w) [ inl i ↦ of_member w i | inr differs ↦ absurd (member_name w differs c p q e) ]
+  member_says : (c : ℕ) (q : InMember) (w : Why) → (member_step p q c).0 ≡ at.Failed w → MachineSays p used w
+  member_says c q w e = elim (is_name w) [ inl i ↦ of_member w i | inr differs ↦ absurd (member_name w differs c p q e) ]
 
-  custom_says : (c : ℕ) (q : InCustom) (w : Why) → (custom_step q c).0 ≡ custom.Failed w → MachineSays used w
+  custom_says : (c : ℕ) (q : InCustom) (w : Why) → (custom_step q c).0 ≡ custom.Failed w → MachineSays p used w
   custom_says c (custom.Length r) w e = go (unsigned_push 32 r c) e
     where
-      go : (q : Step ℕ × Partial) → (on_number q custom.Length custom_after_length custom.Failed).0 ≡ custom.Failed w → MachineSays used w
+      go : (q : Step ℕ × Partial) → (on_number q custom.Length custom_after_length custom.Failed).0 ≡ custom.Failed w → MachineSays p used w
       go (More, s) e = absurd (cc)
       go (Done zero, s) e = absurd (cc)
       go (Done (suc n), s) e = absurd (cc)
-      go (Bad, s) e = let same : why.BadNumber ≡ w = cc in subst (MachineSays used) same tt
+      go (Bad, s) e = let same : why.BadNumber ≡ w = cc in subst (MachineSays p used) same tt
   custom_says c (custom.Name zero) w e = absurd (cc)
   custom_says c (custom.Name (suc n)) w e = absurd (cc)
   custom_says c custom.Skip w e = absurd (cc)
-  custom_says c (custom.Failed v) w e = let same : why.SectionEnd ≡ w = cc in subst (MachineSays used) same tt
+  custom_says c (custom.Failed v) w e = let same : why.SectionEnd ≡ w = cc in subst (MachineSays p used) same tt
 
   -- at an id
-  begun_says : (of : SectionKind) (counts : Counts) → (of ≡ section_kind.Segment → 0 < counts.functions → MachineSays used why.CodeCount) → Says (begun_section of counts).0
+  begun_says : (of : SectionKind) (counts : Counts) → (of ≡ section_kind.Segment → 0 < counts.functions → MachineSays p used why.CodeCount) → Says (begun_section of counts).0
   begun_says section_kind.Segment counts k w e = at_last counts.functions (k refl) e
     where
-      at_last : (n : ℕ) → (0 < n → MachineSays used why.CodeCount) → (begun_last n counts).0 ≡ machine.Refused w → MachineSays used w
+      at_last : (n : ℕ) → (0 < n → MachineSays p used why.CodeCount) → (begun_last n counts).0 ≡ machine.Refused w → MachineSays p used w
       at_last zero k e = absurd (cc)
       at_last (suc n) k e = by_name why.CodeCount (k (omega arith)) w e
   begun_says section_kind.Type counts k w e = absurd (cc)
@@ -161,51 +152,54 @@ module _ (used : List ℕ) where
   begun_says section_kind.Export counts k w e = absurd (cc)
   begun_says section_kind.Start counts k w e = absurd (cc)
   begun_says section_kind.Element counts k w e = absurd (cc)
+  begun_says section_kind.DataCount counts k w e = absurd (cc)
   begun_says section_kind.Code counts k w e = absurd (cc)
 
-late_from : (id last : ℕ) (xs : List RawSection) → 0 < id → id ≤ last → ((last ≡ 0) ⊎ HasFrom last xs) → HasFrom id xs
-late_from id last xs some l (inl e) = absurd (omega (arith, some, l, e))
-late_from id last xs some l (inr h) = record { before = h.before; one = h.one; after = h.after; whole = h.whole; from = let f = h.from in omega (arith, l, f) }
+late_from : (rank last : ℕ) (xs : List RawSection) → 0 < rank → rank ≤ last → ((last ≡ 0) ⊎ HasFrom last xs) → HasFrom rank xs
+late_from rank last xs some l (inl e) = absurd (omega (arith, some, l, e))
+late_from rank last xs some l (inr h) = record { before = h.before; one = h.one; after = h.after; its_rank = h.its_rank; whole = h.whole; id = h.id; few = h.few; from = let f = h.from in omega (arith, l, f) }
+
+-- no section of a rank above the last one came
+none_above : (last rank id : ℕ) (b : List ℕ) (h : Past last b) → rank_at id ≡ rank → last < rank → AllByRecursion (λ s. s.id ≢ id) h.sections
+none_above last rank id b h its above =
+    all_up (λ s. rank_at s.id ≤ last) (λ s. s.id ≢ id) (λ s l e. let same : rank_at s.id ≡ rank_at id = ap rank_at e in omega (arith, l, same, its, above)) h.sections h.below
 
 -- no section with id 10 came while functions await their code
 no_code : (last : ℕ) (counts : Counts) (b : List ℕ) (h : Past last b) → CountsStand last counts h → FitsAt last counts → 0 < counts.functions → (used rest : List ℕ) → ((used ≡ b) × (rest ≡ [])) ⊎ (used ≡ b ++ 11 ∷ []) → NoCode used rest
 no_code last counts b h t fit some used rest ends =
-    let early : last < 10 = elim (cases_lt last 10) [ inl l ↦ l | inr l ↦ absurd (let z = fit.1 l in omega (arith, z, some)) ] in
-    record {
-      sections = h.sections;
-      front = b;
-      functions = counts.functions;
-      ends = ends;
-      before = h.spelled;
-      declared = subst (λ n. Declare n h.sections) (sym (t early)) h.declares;
-      some = some;
-      none = all_up (λ s. s.id ≤ last) (λ s. s.id ≢ 10) (λ s l e. omega (arith, l, e, early)) h.sections h.below;
-    }
+    let early : last < 11 = elim (cases_lt last 11) [ inl l ↦ l | inr l ↦ absurd (let z = fit.1 l in omega (arith, z, some)) ] in
+    (b, ends, record { sections = h.sections; declared = counts.functions; before = h.spelled; says = subst (λ n. Declare n h.sections) (sym (t.0 early)) h.declares; some = some; none = none_above last 11 10 b h refl early })
 
-rising_says : (last : ℕ) (counts : Counts) (id : ℕ) (q : Option SectionKind) (b : List ℕ) → 0 < id → IsNamed id q → (h : Past last b) → CountsStand last counts h → FitsAt last counts → Says (b ++ id ∷ []) (machine_if_rising last counts id q).0
-rising_says last counts id None b some named h t fit =
-    by_name (b ++ id ∷ []) why.SectionId (record { sections = h.sections; front = b; id = id; whole = refl; before = h.spelled; wrong = named })
-rising_says last counts id (Some of) b some named h t fit =
-    cond_both (nat_le id last) _ _ (λ (q : Machine × Event). Says (b ++ id ∷ []) q.0)
-    (λ a. by_name (b ++ id ∷ []) why.SectionOrder (record {
+-- no section with id 11 came while data segments are given
+no_data : (last : ℕ) (counts : Counts) (b : List ℕ) (h : Past last b) → CountsStand last counts h → FitsAt last counts → (n : ℕ) → counts.segments ≡ Some (suc n) → NoData b []
+no_data last counts b h t fit n is =
+    let early : last < 12 = elim (cases_lt last 12) [ inl l ↦ l | inr l ↦ absurd (let z = fit.3 l in cc (is, z)) ] in
+    (refl, record { sections = h.sections; declared = suc n; before = h.spelled; says = subst (λ y. Given y h.sections) is t.1; some = omega arith; none = none_above last 12 11 b h refl early })
+
+rising_says : (p : Profile) (last : ℕ) (counts : Counts) (id : ℕ) (q : Option SectionKind) (b : List ℕ) → IsNamed p id q → (h : Past last b) → CountsStand last counts h → FitsAt last counts → Says p (b ++ id ∷ []) (machine_if_rising last counts q).0
+rising_says p last counts id None b named h t fit =
+    by_name p (b ++ id ∷ []) why.SectionId (record { sections = h.sections; front = b; id = id; whole = refl; before = h.spelled; wrong = named })
+rising_says p last counts id (Some of) b named h t fit =
+    cond_both (nat_le (rank_of of) last) _ _ (λ (q : Machine × Event). Says p (b ++ id ∷ []) q.0)
+    (λ a. by_name p (b ++ id ∷ []) why.SectionOrder (record {
       sections = h.sections;
       front = b;
       id = id;
       whole = refl;
       before = h.spelled;
-      wrong = (some, (let l = last_id of in omega (arith, l, named)), late_from id last h.sections some (leb-true id last a) h.seen);
+      wrong = (rank_of of, rank_some of, rank_few of, named.1, named.0, late_from (rank_of of) last h.sections (rank_some of) (leb-true (rank_of of) last a) h.seen);
     }))
-    (λ _. begun_says (b ++ id ∷ []) of counts (λ e n rest. inr (no_code last counts b h t fit n (b ++ id ∷ []) rest (inr (ap (λ i. b ++ i ∷ []) (named ∙ ap id_of e))))))
+    (λ _. begun_says p (b ++ id ∷ []) of counts (λ e n rest. inr (no_code last counts b h t fit n (b ++ id ∷ []) rest (inr (ap (λ i. b ++ i ∷ []) (named.0 ∙ ap id_of e))))))
 
-start_says : (last : ℕ) (counts : Counts) (c : ℕ) (b : List ℕ) (h : Past last b) → CountsStand last counts h → FitsAt last counts → Says (b ++ c ∷ []) (section_start last counts c).0
-start_says last counts zero b h t fit = λ w e. absurd (cc)
-start_says last counts (suc m) b h t fit = rising_says last counts (suc m) (section_kind_of (suc m)) b (omega arith) (component_named m) h t fit
+start_says : (p : Profile) (last : ℕ) (counts : Counts) (c : ℕ) (b : List ℕ) (h : Past last b) → CountsStand last counts h → FitsAt last counts → Says p (b ++ c ∷ []) (section_start p last counts c).0
+start_says p last counts zero b h t fit = λ w e. absurd (cc)
+start_says p last counts (suc m) b h t fit = rising_says p last counts (suc m) (section_kind_of p (suc m)) b (component_named p m) h t fit
 
 -- in the header
-header_says : (n c : ℕ) (b : List ℕ) → n < 8 → b ≡ take n header → Says (b ++ c ∷ []) (header_step n c).0
-header_says n c b low e =
+header_says : (p : Profile) (n c : ℕ) (b : List ℕ) → n < 8 → b ≡ take n header → Says p (b ++ c ∷ []) (header_step n c).0
+header_says p n c b low e =
     let used : List ℕ = b ++ c ∷ [] in
-    let P : Machine × Event → Type 0 = λ q. Says used q.0 in
+    let P : Machine × Event → Type 0 = λ q. Says p used q.0 in
     let long : length b ≡ n = ap length e ∙ header_length n low in
     let right : b ≡ take (length b) header = e ∙ ap (λ i. take i header) (sym long) in
     cond_both (nat_lt n 8) _ _ P
@@ -214,76 +208,83 @@ header_says n c b low e =
     (λ ne.
     let wrong : c ≢ slice_index header (length b) = λ s. eqb-false c (slice_index header n) ne (s ∙ ap (slice_index header) long) in
     cond_both (nat_lt n 4) _ _ P
-    (λ a. by_name used why.Magic (record { front = b; byte = c; whole = refl; right = right; at_least = omega arith; before = let l = ltb-true n 4 a in omega (arith, l, long); wrong = wrong }))
-    (λ a. by_name used why.Version (record { front = b; byte = c; whole = refl; right = right; at_least = let l = ltb-false n 4 a in omega (arith, l, long); before = omega (arith, low, long); wrong = wrong }))))
+    (λ a. by_name p used why.Magic (record { front = b; byte = c; whole = refl; right = right; at_least = omega arith; before = let l = ltb-true n 4 a in omega (arith, l, long); wrong = wrong }))
+    (λ a. by_name p used why.Version (record { front = b; byte = c; whole = refl; right = right; at_least = let l = ltb-false n 4 a in omega (arith, l, long); before = omega (arith, low, long); wrong = wrong }))))
     (λ a. absurd (let l = ltb-false n 8 a in omega (arith, low, l)))
 
 -- at the count of the members of a section
-module _ (last : ℕ) (counts : Counts) (more : ℕ) (used : List ℕ) (h : InContents last 10 more used) (t : counts.functions ≡ h.past.declared) where
-  other_count : (n : ℕ) → SpellsU32 n h.contents → n ≢ counts.functions → OtherCount used
-  other_count n u d = record {
-    sections = h.past.sections;
-    front = h.front;
-    size = h.size;
-    count = h.contents;
-    bytes = h.n;
-    entries = n;
-    functions = counts.functions;
-    whole = h.whole;
-    before = h.past.spelled;
-    spelled_bytes = h.number;
-    spelled_entries = u;
-    declared = subst (λ m. Declare m h.past.sections) (sym t) h.past.declares;
-    differ = d;
-  }
+other_count : (Says : ℕ → List RawSection → Type 0) (id last more : ℕ) (used : List ℕ) (h : InContents last id more used) (m : ℕ) → Says m h.past.sections → (n : ℕ) → SpellsU32 n h.contents → n ≢ m → OtherCount Says id used
+other_count Says id last more used h m says n u d = record {
+  sections = h.past.sections;
+  front = h.front;
+  size = h.size;
+  count = h.contents;
+  bytes = h.n;
+  members = n;
+  declared = m;
+  whole = h.whole;
+  before = h.past.spelled;
+  spelled_bytes = h.number;
+  spelled_members = u;
+  says = says;
+  differ = d;
+}
 
-module _ (used : List ℕ) where
+module _ (p : Profile) (used : List ℕ) where
   abbrev Counted : SectionKind → Counts → ℕ → ℕ → Type 0
-  Counted of counts more n = Says used (machine_after_paired_count of counts more n)
+  Counted of counts more n = Says p used (machine_after_paired_count of counts more n)
 
-  listed_says : (of : SectionKind) (counts : Counts) (more n : ℕ) → Says used (machine_after_count of counts more n)
-  listed_says = listed_out (Says used) (lives used) (by_name used why.SectionEnd tt) (by_name used why.BadNumber tt)
+  listed_says : (of : SectionKind) (counts : Counts) (more n : ℕ) → Says p used (machine_after_count of counts more n)
+  listed_says = listed_out (Says p used) (lives p used) (by_name p used why.SectionEnd tt) (by_name p used why.BadNumber tt)
 
-  counted_says : (last : ℕ) (of : SectionKind) (counts : Counts) (more n : ℕ) → last < id_of of → (h : InContents last (id_of of) more used) → CountsStand last counts h.past → SpellsU32 n h.contents → Counted of counts more n
-  counted_says last section_kind.Function counts more n up h t u = listed_says section_kind.Function (counts_in section_kind.Function counts n) more n
+  -- another number than the one that was given
+  differs : (last more n : ℕ) (h : InContents last 11 more used) → SpellsU32 n h.contents → (s : Option ℕ) → Given s h.past.sections → is_given s n ≡ false → OtherCount (HasCount 12) 11 used
+  differs last more n h u None g e = absurd (cc)
+  differs last more n h u (Some m) g e = other_count (HasCount 12) 11 last more used h m g n u (eqb-false n m e)
+
+  counted_says : (last : ℕ) (of : SectionKind) (counts : Counts) (more n : ℕ) → last < rank_of of → (h : InContents last (id_of of) more used) → CountsStand last counts h.past → SpellsU32 n h.contents → Counted of counts more n
+  counted_says last section_kind.DataCount counts more n up h t u = listed_says section_kind.DataCount (counts_in section_kind.DataCount counts n) more zero
   counted_says last section_kind.Code counts more n up h t u =
-      cond_both (nat_eq n counts.functions) _ _ (Says used) (λ _. listed_says section_kind.Code (counts_in section_kind.Code counts n) more n)
-      (λ a. by_name used why.CodeCount (λ rest. inl (other_count last counts more used h (t up) n u (eqb-false n counts.functions a))))
+      cond_both (nat_eq n counts.functions) _ _ (Says p used) (λ _. listed_says section_kind.Code (counts_in section_kind.Code counts n) more n)
+      (λ a. by_name p used why.CodeCount (λ rest. inl (other_count Declare 10 last more used h counts.functions (subst (λ m. Declare m h.past.sections) (sym (t.0 up)) h.past.declares) n u (eqb-false n counts.functions a))))
+  counted_says last section_kind.Segment counts more n up h t u =
+      cond_both (is_given counts.segments n) _ _ (Says p used) (λ _. listed_says section_kind.Segment (counts_in section_kind.Segment counts n) more n)
+      (λ a. by_name p used why.DataCount (λ rest. inl (differs last more n h u counts.segments t.1 a)))
   counted_says last section_kind.Type counts more n up h t u = listed_says section_kind.Type (counts_in section_kind.Type counts n) more n
   counted_says last section_kind.Import counts more n up h t u = listed_says section_kind.Import (counts_in section_kind.Import counts n) more n
+  counted_says last section_kind.Function counts more n up h t u = listed_says section_kind.Function (counts_in section_kind.Function counts n) more n
   counted_says last section_kind.Table counts more n up h t u = listed_says section_kind.Table (counts_in section_kind.Table counts n) more n
   counted_says last section_kind.Memory counts more n up h t u = listed_says section_kind.Memory (counts_in section_kind.Memory counts n) more n
   counted_says last section_kind.Global counts more n up h t u = listed_says section_kind.Global (counts_in section_kind.Global counts n) more n
   counted_says last section_kind.Export counts more n up h t u = listed_says section_kind.Export (counts_in section_kind.Export counts n) more n
   counted_says last section_kind.Start counts more n up h t u = listed_says section_kind.Start (counts_in section_kind.Start counts n) more n
   counted_says last section_kind.Element counts more n up h t u = listed_says section_kind.Element (counts_in section_kind.Element counts n) more n
-  counted_says last section_kind.Segment counts more n up h t u = listed_says section_kind.Segment (counts_in section_kind.Segment counts n) more n
 
-  count_says : (last : ℕ) (of : SectionKind) (counts : Counts) (more : ℕ) (q : Step ℕ × Partial) → last < id_of of → (h : InContents last (id_of of) more used) → CountsStand last counts h.past → Numbers h.contents q → Says used (after_count of counts more q).0
-  count_says last of counts more (More, r) up h t u = more_out (Says used) (lives used) (by_name used why.SectionEnd tt) (by_name used why.BadNumber tt) of counts more r
+  count_says : (last : ℕ) (of : SectionKind) (counts : Counts) (more : ℕ) (q : Step ℕ × Partial) → last < rank_of of → (h : InContents last (id_of of) more used) → CountsStand last counts h.past → Numbers h.contents q → Says p used (after_count of counts more q).0
+  count_says last of counts more (More, r) up h t u = more_out (Says p used) (lives p used) (by_name p used why.SectionEnd tt) (by_name p used why.BadNumber tt) of counts more r
   count_says last of counts more (Done n, r) up h t u = counted_says last of counts more n up h t u
-  count_says last of counts more (Bad, r) up h t u = by_name used why.BadNumber tt
+  count_says last of counts more (Bad, r) up h t u = by_name p used why.BadNumber tt
 
 abbrev IsCount : Machine → Type 0
 IsCount (machine.Count of counts more r) = Unit {0}
 IsCount m = ⊥
 
-section_says : (p : Profile) (m : Machine) (c : ℕ) (used : List ℕ) → IsInSection m → (IsCount m → ⊥) → Says used (step_of p m c).0
+section_says : (p : Profile) (m : Machine) (c : ℕ) (used : List ℕ) → IsInSection m → (IsCount m → ⊥) → Says p used (step_of p m c).0
 section_says p m c used i other =
-    step_in (Says used) (lives used) (by_name used why.SectionEnd tt) (by_name used why.BadNumber tt) p m c i
+    step_in (Says p used) (lives p used) (by_name p used why.SectionEnd tt) (by_name p used why.BadNumber tt) p m c i
     (λ of counts more r s. absurd (other (subst IsCount (sym s) tt)))
-    (λ q w e. by_name used w (custom_says used c q w e)) (λ of counts more left q w s e. by_name used w (member_says used p c q w e))
+    (λ q w e. by_name p used w (custom_says p used c q w e)) (λ of counts more left q w s e. by_name p used w (member_says p used c q w e))
 
-pub step_says : (p : Profile) (m : Machine) (c : ℕ) (b : List ℕ) → c < 2 ^ 8 → (IsRefused m → ⊥) → Fits p m → Framed m b → Says (b ++ c ∷ []) (step_of p m c).0
+pub step_says : (p : Profile) (m : Machine) (c : ℕ) (b : List ℕ) → c < 2 ^ 8 → (IsRefused m → ⊥) → Fits p m → Framed m b → Says p (b ++ c ∷ []) (step_of p m c).0
 unfolding one_byte
-step_says p (machine.Header n) c b byte live fit f = header_says n c b f.0 f.1
-step_says p (machine.Between last counts) c b byte live fit f = start_says last counts c b f.0 f.1 fit
+step_says p (machine.Header n) c b byte live fit f = header_says p n c b f.0 f.1
+step_says p (machine.Between last counts) c b byte live fit f = start_says p last counts c b f.0 f.1 fit
 step_says p (machine.Refused w) c b byte live fit f = absurd (live tt)
 step_says p (machine.CustomSize last counts r) c b byte live fit f = section_says p (machine.CustomSize last counts r) c (b ++ c ∷ []) tt (λ i. i)
 step_says p (machine.Custom last counts more q) c b byte live fit f = section_says p (machine.Custom last counts more q) c (b ++ c ∷ []) tt (λ i. i)
 step_says p (machine.Size of counts r) c b byte live fit f = section_says p (machine.Size of counts r) c (b ++ c ∷ []) tt (λ i. i)
 step_says p (machine.Count of counts more r) c b byte live fit f =
-    count_says (b ++ c ∷ []) f.0 of counts more (unsigned_push 32 r c) f.1 (one_byte f.0 (id_of of) more b c f.2) f.3 (numbers r f.2.contents c byte f.4)
+    count_says p (b ++ c ∷ []) f.0 of counts more (unsigned_push 32 r c) f.1 (one_byte f.0 (id_of of) more b c f.2) f.3 (numbers r f.2.contents c byte f.4)
 step_says p (machine.Section of counts more left q) c b byte live fit f = section_says p (machine.Section of counts more left q) c (b ++ c ∷ []) tt (λ i. i)
 
 -- the names that a sink gives are none of these
@@ -299,6 +300,7 @@ by_rule p limit used rest why.Float i = absurd i
 by_rule p limit used rest why.BadByte i = absurd i
 by_rule p limit used rest why.BadUtf8 i = absurd i
 by_rule p limit used rest why.CodeCount i = absurd i
+by_rule p limit used rest why.DataCount i = absurd i
 by_rule p limit used rest why.SectionEnd i = absurd i
 by_rule p limit used rest why.BodyEnd i = absurd i
 by_rule p limit used rest why.BadNumber i = absurd i
@@ -308,7 +310,7 @@ by_rule p limit used rest w i = tt
 found : (p : Profile) (b : List ℕ) (a : AreBytes b) (c : ℕ) (IsWrong : List ℕ → Wanted → ℕ → Type 0) → Found (InInput p b a c) (IsWrong b) c → WrongByte p IsWrong (b ++ c ∷ [])
 found p b a c IsWrong s = record { before = b; byte = c; whole = refl; wanted = s.0; some = s.1.1.some; place = s.1.0; none = s.1.1.none; wrong = s.2 }
 
-by_machine : (p : Profile) (limit : ℕ) (b rest : List ℕ) (a : AreBytes b) (c : ℕ) (w : Why) → MachineSays (b ++ c ∷ []) w → SaysOfByte b (InInput p b a c) c w → (w ≡ why.SectionEnd → OtherSize p (b ++ c ∷ [])) → (w ≡ why.BodyEnd → OtherBodySize p (b ++ c ∷ [])) → (w ≡ why.BadNumber → WrongNumber p (b ++ c ∷ [])) → MeansOfFormat p limit (b ++ c ∷ []) rest w
+by_machine : (p : Profile) (limit : ℕ) (b rest : List ℕ) (a : AreBytes b) (c : ℕ) (w : Why) → MachineSays p (b ++ c ∷ []) w → SaysOfByte b (InInput p b a c) c w → (w ≡ why.SectionEnd → OtherSize p (b ++ c ∷ [])) → (w ≡ why.BodyEnd → OtherBodySize p (b ++ c ∷ [])) → (w ≡ why.BadNumber → WrongNumber p (b ++ c ∷ [])) → MeansOfFormat p limit (b ++ c ∷ []) rest w
 by_machine p limit b rest a c why.Magic h s cut body number = h
 by_machine p limit b rest a c why.Version h s cut body number = h
 by_machine p limit b rest a c why.SectionId h s cut body number = h
@@ -320,6 +322,7 @@ by_machine p limit b rest a c why.Float h s cut body number = found p b a c Begi
 by_machine p limit b rest a c why.BadByte h s cut body number = found p b a c IsOtherByte s
 by_machine p limit b rest a c why.BadUtf8 h s cut body number = absurd h
 by_machine p limit b rest a c why.CodeCount h s cut body number = h rest
+by_machine p limit b rest a c why.DataCount h s cut body number = h rest
 by_machine p limit b rest a c why.SectionEnd h s cut body number = cut refl
 by_machine p limit b rest a c why.BodyEnd h s cut body number = body refl
 by_machine p limit b rest a c why.BadNumber h s cut body number = number refl
@@ -495,11 +498,13 @@ module _ {H : Type 0} (after : H → Item → Result H Why) (s : Setting H) (nam
 
       go : (m : Machine) → (IsRefused m → ⊥) → Fits s.profile m → Framed m b → answer_at_end_of m h at ≡ Err r → MeansOfFormat s.profile s.limit b [] r.why
       go (machine.Refused w) live fit f e = absurd (live tt)
-      go (machine.Between last counts) live fit f e = between counts.functions (λ some. no_code last counts b f.0 f.1 fit some b [] (inl (refl, refl))) e
+      go (machine.Between last counts) live fit f e = between counts.functions counts.segments (λ some. no_code last counts b f.0 f.1 fit some b [] (inl (refl, refl))) (no_data last counts b f.0 f.1 fit) e
         where
-          between : (n : ℕ) → (0 < n → NoCode b []) → answer_between n h at ≡ Err r → MeansOfFormat s.profile s.limit b [] r.why
-          between zero k e = absurd (cc)
-          between (suc n) k e = named why.CodeCount (cc (e)) (inr (k (omega arith)))
+          between : (n : ℕ) (g : Option ℕ) → (0 < n → NoCode b []) → ((m : ℕ) → g ≡ Some (suc m) → NoData b []) → answer_between n g h at ≡ Err r → MeansOfFormat s.profile s.limit b [] r.why
+          between (suc n) g k j e = named why.CodeCount (cc (e)) (inr (k (omega arith)))
+          between zero None k j e = absurd (cc)
+          between zero (Some zero) k j e = absurd (cc)
+          between zero (Some (suc m)) k j e = named why.DataCount (cc (e)) (inr (j m refl))
       go (machine.Header n) live fit f e =
           let long : length b ≡ n = ap length f.1 ∙ header_length n f.0 in
           named why.Truncated (cc (e)) (refl, inl ((let l = f.0 in omega (arith, l, long)), f.1 ∙ ap (λ i. take i header) (sym long)))
@@ -516,11 +521,13 @@ module _ {H : Type 0} (after : H → Item → Result H Why) (s : Setting H) (nam
       its w is = sym (ap (λ (y : Refusal). y.at) is)
 
       go : (m : Machine) → answer_at_end_of m h at ≡ Err r → r.at ≡ at
-      go (machine.Between last counts) e = between counts.functions e
+      go (machine.Between last counts) e = between counts.functions counts.segments e
         where
-          between : (n : ℕ) → answer_between n h at ≡ Err r → r.at ≡ at
-          between zero e = absurd (cc)
-          between (suc n) e = its why.CodeCount (cc (e))
+          between : (n : ℕ) (g : Option ℕ) → answer_between n g h at ≡ Err r → r.at ≡ at
+          between (suc n) g e = its why.CodeCount (cc (e))
+          between zero None e = absurd (cc)
+          between zero (Some zero) e = absurd (cc)
+          between zero (Some (suc m)) e = its why.DataCount (cc (e))
       go (machine.Refused w) e = its w (cc (e))
       go m e = its why.Truncated (cc (e))
 

@@ -26,13 +26,15 @@ use Rattle.wm_machine.specs.declared.machine.member.InMember.{InMember}
 use Rattle.wm_machine.specs.declared.machine.member.InMember.TheVariants as at
 use Rattle.wm_machine.specs.Items.{Zone}
 use Rattle.wm_machine.specs.Sections.{header}
-use Rattle.wm_machine.specs.exact.Members.{id_of, section_kind_of, member_at_start}
+use Rattle.wm_machine.specs.exact.Members.{id_of, rank_of, section_kind_of, member_at_start}
 use Rattle.wm_machine.specs.exact.MemberSteps.{on_number, member_step}
-use Rattle.wm_machine.specs.exact.Steps.{counts_in, begun_last, machine_in_custom, custom_step, machine_in_member, machine_after_count, machine_after_paired_count, after_count, begun_section, machine_if_rising, section_start, after_size, custom_size, header_step, step_of}
+use Rattle.wm_machine.specs.exact.Steps.{counts_in, is_given, begun_last, machine_in_custom, custom_step, machine_in_member, machine_after_count, machine_after_paired_count, after_count, begun_section, machine_if_rising, section_start, after_size, custom_size, header_step, step_of}
 use Rattle.wm_machine.specs.exact.Runs.{byte_read, ByteRead, MachineState, zone_of, after_byte, state_after}
 use Rattle.wm_machine.proofs.Numbers.{NumberNext, number_next}
-use Rattle.wm_machine.proofs.MachineStates.{IsNamed, component_named}
-use Rattle.wm_machine.specs.Meanings.{RawSection, SpellsRaw, SpellsSections, HasFrom, Declare}
+use Rattle.wm_machine.proofs.MachineStates.{IsNamed, component_named, rank_few}
+use Rattle.wm_machine.specs.Grammar.{id_at}
+use Rattle.wm_machine.specs.Meanings.{RawSection, SpellsRaw, SpellsSections, HasCount, HasFrom, Declare}
+use Rattle.wm_machine.proofs.Ranks.{rank_at, rank_of_id}
 
 -- one section more
 each_more : (xs : List RawSection) (x : RawSection) (a b : List ℕ) → Each SpellsRaw xs a → SpellsRaw x b → Each SpellsRaw (xs ++ x ∷ []) (a ++ b)
@@ -42,14 +44,14 @@ each_more (y ∷ ys) x a b e h = (e.0, e.1 ++ b, ap (λ z. z ++ b) e.2 ∙ appen
 sections_more : (xs : List RawSection) (x : RawSection) (a b : List ℕ) → SpellsSections xs a → SpellsRaw x b → SpellsSections (xs ++ x ∷ []) (a ++ b)
 sections_more xs x a b e h = (e.0, e.1 ++ b, ap (λ z. z ++ b) e.2 ∙ append_assoc e.0 e.1 b, e.3, each_more xs x e.1 b e.4 h)
 
--- whole sections, the last of which, custom ones aside, has this id
+-- whole sections, the last of which, custom ones aside, has this rank
 pub record Past (last : ℕ) (b : List ℕ) : Type 0 where
   pub sections : List RawSection
   pub spelled : SpellsSections sections b
   pub seen : (last ≡ 0) ⊎ HasFrom last sections
   pub declared : ℕ
   pub declares : Declare declared sections
-  pub below : AllByRecursion (λ s. s.id ≤ last) sections
+  pub below : AllByRecursion (λ s. rank_at s.id ≤ last) sections
 
 pub record AtSize (last id : ℕ) (r : Partial) (b : List ℕ) : Type 0 where
   pub front : List ℕ
@@ -69,26 +71,36 @@ pub record InContents (last id left : ℕ) (b : List ℕ) : Type 0 where
   pub number : SpellsU32 n size
   pub room : n ≡ length contents + left
 
+-- the number of data segments that the machine keeps is that of the data count section
+abbrev pub Given : Option ℕ → List RawSection → Type 0
+Given None sections = Unit {0}
+Given (Some n) sections = HasCount 12 n sections
+
 -- the functions that the machine counts are those that were declared, up to the code section
 abbrev pub CountsStand : (last : ℕ) (counts : Counts) {b : List ℕ} → Past last b → Type 0
-CountsStand last counts h = last < 10 → counts.functions ≡ h.declared
+CountsStand last counts h = (last < 11 → counts.functions ≡ h.declared) × Given counts.segments h.sections
 
--- the same in a section with this id, once its count was read
-abbrev pub CountsIn : SectionKind → Counts → (contents : List ℕ) → ℕ → Type 0
-CountsIn section_kind.Function counts contents declared =
-    (number more : List ℕ) × (contents ≡ number ++ more) × SpellsU32 counts.functions number
-CountsIn of counts contents declared = id_of of < 10 → counts.functions ≡ declared
+-- these contents begin with the number n
+abbrev BeginsWith : (n : ℕ) → List ℕ → Type 0
+BeginsWith n contents = (number more : List ℕ) × (contents ≡ number ++ more) × SpellsU32 n number
+
+-- the same in a section of this kind after these sections, once its count was read
+abbrev pub CountsIn : SectionKind → Counts → (contents : List ℕ) → ℕ → List RawSection → Type 0
+CountsIn section_kind.Function counts contents declared sections = BeginsWith counts.functions contents × Given counts.segments sections
+CountsIn section_kind.DataCount counts contents declared sections =
+    (10 < 11 → counts.functions ≡ declared) × (n : ℕ) × (counts.segments ≡ Some n) × BeginsWith n contents
+CountsIn of counts contents declared sections = (rank_of of < 11 → counts.functions ≡ declared) × Given counts.segments sections
 
 abbrev pub Framed : Machine → List ℕ → Type 0
 Framed (machine.Header n) b = (n < 8) × (b ≡ take n header)
 Framed (machine.Between last counts) b = (h : Past last b) × CountsStand last counts h
 Framed (machine.CustomSize last counts r) b = (h : AtSize last 0 r b) × CountsStand last counts h.past
 Framed (machine.Custom last counts more q) b = (h : InContents last 0 (suc more) b) × CountsStand last counts h.past
-Framed (machine.Size of counts r) b = (last : ℕ) × (last < id_of of) × (h : AtSize last (id_of of) r b) × CountsStand last counts h.past
+Framed (machine.Size of counts r) b = (last : ℕ) × (last < rank_of of) × (h : AtSize last (id_of of) r b) × CountsStand last counts h.past
 Framed (machine.Count of counts more r) b =
-    (last : ℕ) × (last < id_of of) × (h : InContents last (id_of of) (suc more) b) × CountsStand last counts h.past × UnsignedAfter 32 r h.contents
+    (last : ℕ) × (last < rank_of of) × (h : InContents last (id_of of) (suc more) b) × CountsStand last counts h.past × UnsignedAfter 32 r h.contents
 Framed (machine.Section of counts more left q) b =
-    (last : ℕ) × (last < id_of of) × (h : InContents last (id_of of) (suc more) b) × CountsIn of counts h.contents h.past.declared
+    (last : ℕ) × (last < rank_of of) × (h : InContents last (id_of of) (suc more) b) × CountsIn of counts h.contents h.past.declared h.past.sections
 Framed (machine.Refused w) b = Unit {0}
 
 -- the section as bytes
@@ -106,12 +118,22 @@ all_more : (P : RawSection → Type 0) (xs : List RawSection) (x : RawSection) �
 all_more P [] x a h = (h, tt)
 all_more P (y ∷ xs) x a h = (a.0, all_more P xs x a.1 h)
 
+count_more : (id n : ℕ) (xs : List RawSection) (one : RawSection) → HasCount id n xs → HasCount id n (xs ++ one ∷ [])
+count_more id n xs one h =
+    record { before = h.before; after = h.after ++ one ∷ []; number = h.number; more = h.more; whole = ap (λ y. y ++ one ∷ []) h.whole ∙ append_assoc h.before (record { id = id; contents = h.number ++ h.more } ∷ h.after) (one ∷ []); spelled = h.spelled }
+
+own_count : (id n : ℕ) (xs : List RawSection) (contents : List ℕ) → BeginsWith n contents → HasCount id n (xs ++ record { id = id; contents = contents } ∷ [])
+own_count id n xs contents t = record { before = xs; after = []; number = t.0; more = t.1; whole = ap (λ y. xs ++ record { id = id; contents = y } ∷ []) t.2; spelled = t.3 }
+
+given_more : (s : Option ℕ) (xs : List RawSection) (one : RawSection) → Given s xs → Given s (xs ++ one ∷ [])
+given_more None xs one h = tt
+given_more (Some n) xs one h = count_more 12 n xs one h
+
 declares_more : (n : ℕ) (xs : List RawSection) (one : RawSection) → one.id ≢ 3 → Declare n xs → Declare n (xs ++ one ∷ [])
-declares_more n xs one other (inl h) =
-    inl (record { before = h.before; after = h.after ++ one ∷ []; number = h.number; more = h.more; whole = ap (λ y. y ++ one ∷ []) h.whole ∙ append_assoc h.before (record { id = 3; contents = h.number ++ h.more } ∷ h.after) (one ∷ []); spelled = h.spelled })
+declares_more n xs one other (inl h) = inl (count_more 3 n xs one h)
 declares_more n xs one other (inr h) = inr (h.0, all_more (λ s. s.id ≢ 3) xs one h.1 other)
 
-ended : (last id : ℕ) (b : List ℕ) (next : ℕ) (h : InContents last id 0 b) → last ≤ next → id ≤ next
+ended : (last id : ℕ) (b : List ℕ) (next : ℕ) (h : InContents last id 0 b) → last ≤ next → rank_at id ≤ next
     → ((xs : List RawSection) → ((last ≡ 0) ⊎ HasFrom last xs) → (next ≡ 0) ⊎ HasFrom next (xs ++ record { id = id; contents = h.contents } ∷ []))
     → (n : ℕ) → Declare n (h.past.sections ++ record { id = id; contents = h.contents } ∷ []) → Past next b
 ended last id b next h up own seen n declares =
@@ -123,16 +145,16 @@ ended last id b next h up own seen n declares =
       seen = seen p.sections p.seen;
       declared = n;
       declares = declares;
-      below = all_more (λ s. s.id ≤ next) p.sections one (all_up (λ s. s.id ≤ last) (λ s. s.id ≤ next) (λ s l. omega (arith, l, up)) p.sections p.below) own;
+      below = all_more (λ s. rank_at s.id ≤ next) p.sections one (all_up (λ s. rank_at s.id ≤ last) (λ s. rank_at s.id ≤ next) (λ s l. omega (arith, l, up)) p.sections p.below) own;
     }
 
 -- a custom section leaves what was seen, another one is the last
 custom_seen : (last : ℕ) (one : RawSection) (xs : List RawSection) → ((last ≡ 0) ⊎ HasFrom last xs) → (last ≡ 0) ⊎ HasFrom last (xs ++ one ∷ [])
 custom_seen last one xs (inl e) = inl e
-custom_seen last one xs (inr h) = inr (record { before = h.before; one = h.one; after = h.after ++ one ∷ []; whole = ap (λ y. y ++ one ∷ []) h.whole ∙ append_assoc h.before (h.one ∷ h.after) (one ∷ []); from = h.from })
+custom_seen last one xs (inr h) = inr (record { before = h.before; one = h.one; after = h.after ++ one ∷ []; its_rank = h.its_rank; whole = ap (λ y. y ++ one ∷ []) h.whole ∙ append_assoc h.before (h.one ∷ h.after) (one ∷ []); id = h.id; few = h.few; from = h.from })
 
-own_seen : (id : ℕ) (one : RawSection) → one.id ≡ id → (xs : List RawSection) → (id ≡ 0) ⊎ HasFrom id (xs ++ one ∷ [])
-own_seen id one e xs = inr (record { before = xs; one = one; after = []; whole = refl; from = omega (arith, e) })
+own_seen : (rank : ℕ) (one : RawSection) → one.id ≡ id_at rank → rank ≤ 12 → (xs : List RawSection) → (rank ≡ 0) ⊎ HasFrom rank (xs ++ one ∷ [])
+own_seen rank one e few xs = inr (record { before = xs; one = one; after = []; its_rank = rank; whole = refl; id = e; few = few; from = omega arith })
 
 -- one byte of the contents
 unfoldable pub one_byte : (last id left : ℕ) (b : List ℕ) (c : ℕ) → InContents last id (suc left) b → InContents last id left (b ++ c ∷ [])
@@ -148,18 +170,22 @@ one_byte last id left b c h = record {
 }
 
 -- one byte more of the contents leaves their count
-one_more : (of : SectionKind) (counts : Counts) (contents : List ℕ) (d c : ℕ) → CountsIn of counts contents d → CountsIn of counts (contents ++ c ∷ []) d
-one_more section_kind.Function counts contents d c t = (t.0, t.1 ++ c ∷ [], ap (λ y. y ++ c ∷ []) t.2 ∙ append_assoc t.0 t.1 (c ∷ []), t.3)
-one_more section_kind.Type counts contents d c t = t
-one_more section_kind.Import counts contents d c t = t
-one_more section_kind.Table counts contents d c t = t
-one_more section_kind.Memory counts contents d c t = t
-one_more section_kind.Global counts contents d c t = t
-one_more section_kind.Export counts contents d c t = t
-one_more section_kind.Start counts contents d c t = t
-one_more section_kind.Element counts contents d c t = t
-one_more section_kind.Code counts contents d c t = t
-one_more section_kind.Segment counts contents d c t = t
+begins_more : (n : ℕ) (contents : List ℕ) (c : ℕ) → BeginsWith n contents → BeginsWith n (contents ++ c ∷ [])
+begins_more n contents c t = (t.0, t.1 ++ c ∷ [], ap (λ y. y ++ c ∷ []) t.2 ∙ append_assoc t.0 t.1 (c ∷ []), t.3)
+
+one_more : (of : SectionKind) (counts : Counts) (contents : List ℕ) (d : ℕ) (xs : List RawSection) (c : ℕ) → CountsIn of counts contents d xs → CountsIn of counts (contents ++ c ∷ []) d xs
+one_more section_kind.Function counts contents d xs c t = (begins_more counts.functions contents c t.0, t.1)
+one_more section_kind.DataCount counts contents d xs c t = (t.0, t.1, t.2, begins_more t.1 contents c t.3)
+one_more section_kind.Type counts contents d xs c t = t
+one_more section_kind.Import counts contents d xs c t = t
+one_more section_kind.Table counts contents d xs c t = t
+one_more section_kind.Memory counts contents d xs c t = t
+one_more section_kind.Global counts contents d xs c t = t
+one_more section_kind.Export counts contents d xs c t = t
+one_more section_kind.Start counts contents d xs c t = t
+one_more section_kind.Element counts contents d xs c t = t
+one_more section_kind.Code counts contents d xs c t = t
+one_more section_kind.Segment counts contents d xs c t = t
 
 begins_number : (y : List ℕ) → y ≡ [] → UnsignedAfter 32 fresh y
 begins_number y e = subst (UnsignedAfter 32 fresh) (sym e) (unsigned_fresh 32 (omega arith))
@@ -169,7 +195,7 @@ in_custom : (last : ℕ) (counts : Counts) (left : ℕ) (q : InCustom) (b : List
 unfolding ended
 in_custom last counts left (custom.Failed w) b h t = tt
 in_custom last counts zero custom.Skip b h t =
-    (ended last 0 b last h (omega arith) (omega arith) (custom_seen last _) h.past.declared (declares_more h.past.declared h.past.sections (record { id = 0; contents = h.contents }) (λ e. omega (arith, e)) h.past.declares), t)
+    (ended last 0 b last h (omega arith) (omega arith) (custom_seen last _) h.past.declared (declares_more h.past.declared h.past.sections (record { id = 0; contents = h.contents }) (λ e. omega (arith, e)) h.past.declares), (t.0, given_more counts.segments h.past.sections (record { id = 0; contents = h.contents }) t.1))
 in_custom last counts zero (custom.Length r) b h t = tt
 in_custom last counts zero (custom.Name m) b h t = tt
 in_custom last counts (suc n) custom.Skip b h t = (h, t)
@@ -177,33 +203,38 @@ in_custom last counts (suc n) (custom.Length r) b h t = (h, t)
 in_custom last counts (suc n) (custom.Name m) b h t = (h, t)
 
 -- what the sections declare once this one is over
-abbrev Declared : SectionKind → Counts → List RawSection → List ℕ → ℕ → Type 0
-Declared of counts xs contents n = Declare n (xs ++ record { id = id_of of; contents = contents } ∷ []) × (id_of of < 10 → counts.functions ≡ n)
+abbrev Declares : SectionKind → Counts → List RawSection → List ℕ → ℕ → Type 0
+Declares of counts xs contents n = Declare n (xs ++ record { id = id_of of; contents = contents } ∷ []) × (rank_of of < 11 → counts.functions ≡ n) × Given counts.segments (xs ++ record { id = id_of of; contents = contents } ∷ [])
 
-other_declares : (of : SectionKind) (counts : Counts) (xs : List RawSection) (contents : List ℕ) (d : ℕ) → id_of of ≢ 3 → Declare d xs → (id_of of < 10 → counts.functions ≡ d) → (n : ℕ) × Declared of counts xs contents n
-other_declares of counts xs contents d other h t = (d, (declares_more d xs (record { id = id_of of; contents = contents }) other h, t))
+other_declares : (of : SectionKind) (counts : Counts) (xs : List RawSection) (contents : List ℕ) (d : ℕ) → id_of of ≢ 3 → Declare d xs → (rank_of of < 11 → counts.functions ≡ d) → Given counts.segments xs → (n : ℕ) × Declares of counts xs contents n
+other_declares of counts xs contents d other h t g =
+    let one : RawSection = record { id = id_of of; contents = contents } in
+    (d, (declares_more d xs one other h, t, given_more counts.segments xs one g))
 
-over_declares : (of : SectionKind) (counts : Counts) (xs : List RawSection) (contents : List ℕ) (d : ℕ) → Declare d xs → CountsIn of counts contents d → (n : ℕ) × Declared of counts xs contents n
+over_declares : (of : SectionKind) (counts : Counts) (xs : List RawSection) (contents : List ℕ) (d : ℕ) → Declare d xs → CountsIn of counts contents d xs → (n : ℕ) × Declares of counts xs contents n
 over_declares section_kind.Function counts xs contents d h t =
-    (counts.functions, (inl (record { before = xs; after = []; number = t.0; more = t.1; whole = ap (λ y. xs ++ record { id = 3; contents = y } ∷ []) t.2; spelled = t.3 }), λ l. refl))
-over_declares section_kind.Type counts xs contents d h t = other_declares section_kind.Type counts xs contents d (λ e. omega (arith, e)) h t
-over_declares section_kind.Import counts xs contents d h t = other_declares section_kind.Import counts xs contents d (λ e. omega (arith, e)) h t
-over_declares section_kind.Table counts xs contents d h t = other_declares section_kind.Table counts xs contents d (λ e. omega (arith, e)) h t
-over_declares section_kind.Memory counts xs contents d h t = other_declares section_kind.Memory counts xs contents d (λ e. omega (arith, e)) h t
-over_declares section_kind.Global counts xs contents d h t = other_declares section_kind.Global counts xs contents d (λ e. omega (arith, e)) h t
-over_declares section_kind.Export counts xs contents d h t = other_declares section_kind.Export counts xs contents d (λ e. omega (arith, e)) h t
-over_declares section_kind.Start counts xs contents d h t = other_declares section_kind.Start counts xs contents d (λ e. omega (arith, e)) h t
-over_declares section_kind.Element counts xs contents d h t = other_declares section_kind.Element counts xs contents d (λ e. omega (arith, e)) h t
-over_declares section_kind.Code counts xs contents d h t = other_declares section_kind.Code counts xs contents d (λ e. omega (arith, e)) h t
-over_declares section_kind.Segment counts xs contents d h t = other_declares section_kind.Segment counts xs contents d (λ e. omega (arith, e)) h t
+    (counts.functions, (inl (own_count 3 counts.functions xs contents t.0), (λ l. refl), given_more counts.segments xs (record { id = 3; contents = contents }) t.1))
+over_declares section_kind.DataCount counts xs contents d h t =
+    let one : RawSection = record { id = 12; contents = contents } in
+    (d, (declares_more d xs one (λ e. omega (arith, e)) h, t.0, subst (λ y. Given y (xs ++ one ∷ [])) (sym t.2) (own_count 12 t.1 xs contents t.3)))
+over_declares section_kind.Type counts xs contents d h t = other_declares section_kind.Type counts xs contents d (λ e. omega (arith, e)) h t.0 t.1
+over_declares section_kind.Import counts xs contents d h t = other_declares section_kind.Import counts xs contents d (λ e. omega (arith, e)) h t.0 t.1
+over_declares section_kind.Table counts xs contents d h t = other_declares section_kind.Table counts xs contents d (λ e. omega (arith, e)) h t.0 t.1
+over_declares section_kind.Memory counts xs contents d h t = other_declares section_kind.Memory counts xs contents d (λ e. omega (arith, e)) h t.0 t.1
+over_declares section_kind.Global counts xs contents d h t = other_declares section_kind.Global counts xs contents d (λ e. omega (arith, e)) h t.0 t.1
+over_declares section_kind.Export counts xs contents d h t = other_declares section_kind.Export counts xs contents d (λ e. omega (arith, e)) h t.0 t.1
+over_declares section_kind.Start counts xs contents d h t = other_declares section_kind.Start counts xs contents d (λ e. omega (arith, e)) h t.0 t.1
+over_declares section_kind.Element counts xs contents d h t = other_declares section_kind.Element counts xs contents d (λ e. omega (arith, e)) h t.0 t.1
+over_declares section_kind.Code counts xs contents d h t = other_declares section_kind.Code counts xs contents d (λ e. omega (arith, e)) h t.0 t.1
+over_declares section_kind.Segment counts xs contents d h t = other_declares section_kind.Segment counts xs contents d (λ e. omega (arith, e)) h t.0 t.1
 
 -- in another one
-in_member : (last : ℕ) (of : SectionKind) (counts : Counts) (bytes left : ℕ) (q : InMember) (b : List ℕ) → last < id_of of → (h : InContents last (id_of of) bytes b) → CountsIn of counts h.contents h.past.declared → Framed (machine_in_member of counts bytes left q) b
+in_member : (last : ℕ) (of : SectionKind) (counts : Counts) (bytes left : ℕ) (q : InMember) (b : List ℕ) → last < rank_of of → (h : InContents last (id_of of) bytes b) → CountsIn of counts h.contents h.past.declared h.past.sections → Framed (machine_in_member of counts bytes left q) b
 unfolding ended
 in_member last of counts bytes left (at.Failed w) b up h t = tt
 in_member last of counts zero zero at.Over b up h t =
     let d = over_declares of counts h.past.sections h.contents h.past.declared h.past.declares t in
-    (ended last (id_of of) b (id_of of) h (omega (arith, up)) (omega arith) (λ xs s. own_seen (id_of of) _ refl xs) d.0 d.1.0, d.1.1)
+    (ended last (id_of of) b (rank_of of) h (omega (arith, up)) (omega (arith, rank_of_id (rank_of of))) (λ xs s. own_seen (rank_of of) _ refl (rank_few of) xs) d.0 d.1.0, (d.1.1, d.1.2))
 in_member last of counts (suc n) zero at.Over b up h t = tt
 in_member last of counts zero (suc l) at.Over b up h t = tt
 in_member last of counts (suc n) (suc l) at.Over b up h t = (last, up, h, t)
@@ -211,23 +242,25 @@ in_member last of counts zero left q b up h t = tt
 in_member last of counts (suc n) left q b up h t = (last, up, h, t)
 
 -- at its count
-listed : (last : ℕ) (of : SectionKind) (counts : Counts) (bytes n : ℕ) (b : List ℕ) → last < id_of of → (h : InContents last (id_of of) bytes b) → CountsIn of counts h.contents h.past.declared → Framed (machine_after_count of counts bytes n) b
+listed : (last : ℕ) (of : SectionKind) (counts : Counts) (bytes n : ℕ) (b : List ℕ) → last < rank_of of → (h : InContents last (id_of of) bytes b) → CountsIn of counts h.contents h.past.declared h.past.sections → Framed (machine_after_count of counts bytes n) b
 listed last of counts bytes zero b up h t = in_member last of counts bytes zero at.Over b up h t
 listed last of counts bytes (suc n) b up h t = in_member last of counts bytes n (member_at_start of) b up h t
 
-counted : (last : ℕ) (of : SectionKind) (counts : Counts) (bytes n : ℕ) (b : List ℕ) → last < id_of of → (h : InContents last (id_of of) bytes b) → CountsStand last counts h.past → SpellsU32 n h.contents → Framed (machine_after_paired_count of counts bytes n) b
-counted last section_kind.Function counts bytes n b up h t u = listed last section_kind.Function (counts_in section_kind.Function counts n) bytes n b up h (h.contents, [], sym (append-nil h.contents), u)
+counted : (last : ℕ) (of : SectionKind) (counts : Counts) (bytes n : ℕ) (b : List ℕ) → last < rank_of of → (h : InContents last (id_of of) bytes b) → CountsStand last counts h.past → SpellsU32 n h.contents → Framed (machine_after_paired_count of counts bytes n) b
+counted last section_kind.Function counts bytes n b up h t u = listed last section_kind.Function (counts_in section_kind.Function counts n) bytes n b up h ((h.contents, [], sym (append-nil h.contents), u), t.1)
+counted last section_kind.DataCount counts bytes n b up h t u = listed last section_kind.DataCount (counts_in section_kind.DataCount counts n) bytes zero b up h ((λ l. t.0 (omega (arith, up))), n, refl, (h.contents, [], sym (append-nil h.contents), u))
 counted last section_kind.Code counts bytes n b up h t u =
-    cond_both (nat_eq n counts.functions) _ _ (λ (m : Machine). Framed m b) (λ _. listed last section_kind.Code (counts_in section_kind.Code counts n) bytes n b up h (λ l. absurd (omega (arith, l)))) (λ _. tt)
-counted last section_kind.Type counts bytes n b up h t u = listed last section_kind.Type (counts_in section_kind.Type counts n) bytes n b up h (λ l. t (omega (arith, l, up)))
-counted last section_kind.Import counts bytes n b up h t u = listed last section_kind.Import (counts_in section_kind.Import counts n) bytes n b up h (λ l. t (omega (arith, l, up)))
-counted last section_kind.Table counts bytes n b up h t u = listed last section_kind.Table (counts_in section_kind.Table counts n) bytes n b up h (λ l. t (omega (arith, l, up)))
-counted last section_kind.Memory counts bytes n b up h t u = listed last section_kind.Memory (counts_in section_kind.Memory counts n) bytes n b up h (λ l. t (omega (arith, l, up)))
-counted last section_kind.Global counts bytes n b up h t u = listed last section_kind.Global (counts_in section_kind.Global counts n) bytes n b up h (λ l. t (omega (arith, l, up)))
-counted last section_kind.Export counts bytes n b up h t u = listed last section_kind.Export (counts_in section_kind.Export counts n) bytes n b up h (λ l. t (omega (arith, l, up)))
-counted last section_kind.Start counts bytes n b up h t u = listed last section_kind.Start (counts_in section_kind.Start counts n) bytes n b up h (λ l. t (omega (arith, l, up)))
-counted last section_kind.Element counts bytes n b up h t u = listed last section_kind.Element (counts_in section_kind.Element counts n) bytes n b up h (λ l. t (omega (arith, l, up)))
-counted last section_kind.Segment counts bytes n b up h t u = listed last section_kind.Segment (counts_in section_kind.Segment counts n) bytes n b up h (λ l. absurd (omega (arith, l)))
+    cond_both (nat_eq n counts.functions) _ _ (λ (m : Machine). Framed m b) (λ _. listed last section_kind.Code (counts_in section_kind.Code counts n) bytes n b up h ((λ l. absurd (omega (arith, l))), t.1)) (λ _. tt)
+counted last section_kind.Segment counts bytes n b up h t u =
+    cond_both (is_given counts.segments n) _ _ (λ (m : Machine). Framed m b) (λ _. listed last section_kind.Segment (counts_in section_kind.Segment counts n) bytes n b up h ((λ l. absurd (omega (arith, l))), tt)) (λ _. tt)
+counted last section_kind.Type counts bytes n b up h t u = listed last section_kind.Type (counts_in section_kind.Type counts n) bytes n b up h ((λ l. t.0 (omega (arith, l, up))), t.1)
+counted last section_kind.Import counts bytes n b up h t u = listed last section_kind.Import (counts_in section_kind.Import counts n) bytes n b up h ((λ l. t.0 (omega (arith, l, up))), t.1)
+counted last section_kind.Table counts bytes n b up h t u = listed last section_kind.Table (counts_in section_kind.Table counts n) bytes n b up h ((λ l. t.0 (omega (arith, l, up))), t.1)
+counted last section_kind.Memory counts bytes n b up h t u = listed last section_kind.Memory (counts_in section_kind.Memory counts n) bytes n b up h ((λ l. t.0 (omega (arith, l, up))), t.1)
+counted last section_kind.Global counts bytes n b up h t u = listed last section_kind.Global (counts_in section_kind.Global counts n) bytes n b up h ((λ l. t.0 (omega (arith, l, up))), t.1)
+counted last section_kind.Export counts bytes n b up h t u = listed last section_kind.Export (counts_in section_kind.Export counts n) bytes n b up h ((λ l. t.0 (omega (arith, l, up))), t.1)
+counted last section_kind.Start counts bytes n b up h t u = listed last section_kind.Start (counts_in section_kind.Start counts n) bytes n b up h ((λ l. t.0 (omega (arith, l, up))), t.1)
+counted last section_kind.Element counts bytes n b up h t u = listed last section_kind.Element (counts_in section_kind.Element counts n) bytes n b up h ((λ l. t.0 (omega (arith, l, up))), t.1)
 
 -- the number so far, or the number
 abbrev pub Numbers : List ℕ → Step ℕ × Partial → Type 0
@@ -249,7 +282,7 @@ numbers r y c byte u = go (unsigned_push 32 r c) (number_next r c byte)
     go (Done v, s) next = (u.same v c []).1 ((next v []).1 (refl, refl))
     go (Bad, s) next = tt
 
-at_count : (last : ℕ) (of : SectionKind) (counts : Counts) (more : ℕ) (q : Step ℕ × Partial) (b : List ℕ) → last < id_of of → (h : InContents last (id_of of) more b) → CountsStand last counts h.past → Numbers h.contents q → Framed (after_count of counts more q).0 b
+at_count : (last : ℕ) (of : SectionKind) (counts : Counts) (more : ℕ) (q : Step ℕ × Partial) (b : List ℕ) → last < rank_of of → (h : InContents last (id_of of) more b) → CountsStand last counts h.past → Numbers h.contents q → Framed (after_count of counts more q).0 b
 at_count last of counts zero (More, r) b up h t u = tt
 at_count last of counts (suc n) (More, r) b up h t u = (last, up, h, t, u)
 at_count last of counts more (Done n, r) b up h t u = counted last of counts more n b up h t u
@@ -291,9 +324,9 @@ at_custom_size last counts (More, r) b h = h
 at_custom_size last counts (Done n, r) b h = in_custom last counts n (custom.Length fresh) b h.0 h.1
 at_custom_size last counts (Bad, r) b h = tt
 
-in_contents : (last : ℕ) (of : SectionKind) (counts : Counts) (n : ℕ) (b : List ℕ) → last < id_of of → (h : InContents last (id_of of) n b) → CountsStand last counts h.past → h.contents ≡ [] → Framed (after_size of counts n) b
+in_contents : (last : ℕ) (of : SectionKind) (counts : Counts) (n : ℕ) (b : List ℕ) → last < rank_of of → (h : InContents last (id_of of) n b) → CountsStand last counts h.past → h.contents ≡ [] → Framed (after_size of counts n) b
 in_contents last of counts zero b up h t e = tt
-in_contents last section_kind.Start counts (suc n) b up h t e = (last, up, h, λ l. t (omega (arith, l, up)))
+in_contents last section_kind.Start counts (suc n) b up h t e = (last, up, h, ((λ l. t.0 (omega (arith, l, up))), t.1))
 in_contents last section_kind.Type counts (suc n) b up h t e = (last, up, h, t, begins_number h.contents e)
 in_contents last section_kind.Import counts (suc n) b up h t e = (last, up, h, t, begins_number h.contents e)
 in_contents last section_kind.Function counts (suc n) b up h t e = (last, up, h, t, begins_number h.contents e)
@@ -302,10 +335,11 @@ in_contents last section_kind.Memory counts (suc n) b up h t e = (last, up, h, t
 in_contents last section_kind.Global counts (suc n) b up h t e = (last, up, h, t, begins_number h.contents e)
 in_contents last section_kind.Export counts (suc n) b up h t e = (last, up, h, t, begins_number h.contents e)
 in_contents last section_kind.Element counts (suc n) b up h t e = (last, up, h, t, begins_number h.contents e)
+in_contents last section_kind.DataCount counts (suc n) b up h t e = (last, up, h, t, begins_number h.contents e)
 in_contents last section_kind.Code counts (suc n) b up h t e = (last, up, h, t, begins_number h.contents e)
 in_contents last section_kind.Segment counts (suc n) b up h t e = (last, up, h, t, begins_number h.contents e)
 
-at_its_size : (last : ℕ) (of : SectionKind) (counts : Counts) (q : Step ℕ × Partial) (b : List ℕ) → last < id_of of → Sizes last counts (id_of of) b q
+at_its_size : (last : ℕ) (of : SectionKind) (counts : Counts) (q : Step ℕ × Partial) (b : List ℕ) → last < rank_of of → Sizes last counts (id_of of) b q
     → Framed (on_number q (λ s. machine.Size of counts s) (λ n. (after_size of counts n, event.Nothing)) machine.Refused).0 b
 at_its_size last of counts (More, r) b up h = (last, up, h.0, h.1)
 at_its_size last of counts (Done n, r) b up h = in_contents last of counts n b up h.0 h.1 h.2
@@ -315,7 +349,7 @@ at_its_size last of counts (Bad, r) b up h = tt
 begins : (last id : ℕ) (b : List ℕ) → Past last b → AtSize last id fresh (b ++ id ∷ [])
 begins last id b h = record { front = b; begun = []; whole = refl; past = h; number = unsigned_fresh 32 (omega arith) }
 
-begun : (last : ℕ) (of : SectionKind) (counts : Counts) (b : List ℕ) → last < id_of of → (h : AtSize last (id_of of) fresh b) → CountsStand last counts h.past → Framed (begun_section of counts).0 b
+begun : (last : ℕ) (of : SectionKind) (counts : Counts) (b : List ℕ) → last < rank_of of → (h : AtSize last (id_of of) fresh b) → CountsStand last counts h.past → Framed (begun_section of counts).0 b
 begun last section_kind.Segment counts b up h t = at_last counts.functions
   where
     at_last : (n : ℕ) → Framed (begun_last n counts).0 b
@@ -330,21 +364,22 @@ begun last section_kind.Global counts b up h t = (last, up, h, t)
 begun last section_kind.Export counts b up h t = (last, up, h, t)
 begun last section_kind.Start counts b up h t = (last, up, h, t)
 begun last section_kind.Element counts b up h t = (last, up, h, t)
+begun last section_kind.DataCount counts b up h t = (last, up, h, t)
 begun last section_kind.Code counts b up h t = (last, up, h, t)
 
-rising : (last : ℕ) (counts : Counts) (id : ℕ) (q : Option SectionKind) (b : List ℕ) → IsNamed id q → (h : Past last b) → CountsStand last counts h → Framed (machine_if_rising last counts id q).0 (b ++ id ∷ [])
-rising last counts id None b named h t = tt
-rising last counts id (Some of) b named h t =
-    cond_both (nat_le id last) _ _ (λ (q : Machine × Event). Framed q.0 (b ++ id ∷ [])) (λ _. tt)
-    (λ a. begun last of counts (b ++ id ∷ []) (let above : last < id = leb-false id last a in omega (arith, above, named)) (at_id named) t)
+rising : (p : Profile) (last : ℕ) (counts : Counts) (id : ℕ) (q : Option SectionKind) (b : List ℕ) → IsNamed p id q → (h : Past last b) → CountsStand last counts h → Framed (machine_if_rising last counts q).0 (b ++ id ∷ [])
+rising p last counts id None b named h t = tt
+rising p last counts id (Some of) b named h t =
+    cond_both (nat_le (rank_of of) last) _ _ (λ (q : Machine × Event). Framed q.0 (b ++ id ∷ [])) (λ _. tt)
+    (λ a. begun last of counts (b ++ id ∷ []) (leb-false (rank_of of) last a) (at_id named.0) t)
   where
     at_id : (e : id ≡ id_of of) → AtSize last (id_of of) fresh (b ++ id ∷ [])
     at_id e = record { front = b; begun = []; whole = ap (λ i. b ++ i ∷ []) e; past = h; number = unsigned_fresh 32 (omega arith) }
 
-starts : (last : ℕ) (counts : Counts) (c : ℕ) (b : List ℕ) (h : Past last b) → CountsStand last counts h → Framed (section_start last counts c).0 (b ++ c ∷ [])
+starts : (p : Profile) (last : ℕ) (counts : Counts) (c : ℕ) (b : List ℕ) (h : Past last b) → CountsStand last counts h → Framed (section_start p last counts c).0 (b ++ c ∷ [])
 unfolding begins
-starts last counts zero b h t = (begins last 0 b h, t)
-starts last counts (suc m) b h t = rising last counts (suc m) (section_kind_of (suc m)) b (component_named m) h t
+starts p last counts zero b h t = (begins last 0 b h, t)
+starts p last counts (suc m) b h t = rising p last counts (suc m) (section_kind_of p (suc m)) b (component_named p m) h t
 
 -- in the header
 header_more : (n : ℕ) → n < 8 → take n header ++ slice_index header n ∷ [] ≡ take (n + 1) header
@@ -368,7 +403,7 @@ in_header n c b low e =
     cond_both (nat_lt n 7) _ _ P
     (λ a. (let l = ltb-true n 7 a in omega (arith, l), same))
     (λ a. let seven : n + 1 ≡ 8 = let l = ltb-false n 7 a in omega (arith, l, low) in
-    (record { sections = []; spelled = (b ++ c ∷ [], [], sym (append-nil (b ++ c ∷ [])), same ∙ ap (λ i. take i header) seven, refl); seen = inl refl; declared = 0; declares = inr (refl, tt); below = tt }, λ l. refl)))
+    (record { sections = []; spelled = (b ++ c ∷ [], [], sym (append-nil (b ++ c ∷ [])), same ∙ ap (λ i. take i header) seven, refl); seen = inl refl; declared = 0; declares = inr (refl, tt); below = tt }, ((λ l. refl), tt))))
     (λ _. cond_both (nat_lt n 4) _ _ P (λ _. tt) (λ _. tt)))
     (λ _. tt)
 
@@ -376,13 +411,13 @@ in_header n c b low e =
 pub step_framed : (p : Profile) (m : Machine) (c : ℕ) (b : List ℕ) → c < 2 ^ 8 → Framed m b → Framed (step_of p m c).0 (b ++ c ∷ [])
 unfolding one_byte
 step_framed p (machine.Header n) c b byte h = in_header n c b h.0 h.1
-step_framed p (machine.Between last counts) c b byte h = starts last counts c b h.0 h.1
+step_framed p (machine.Between last counts) c b byte h = starts p last counts c b h.0 h.1
 step_framed p (machine.CustomSize last counts r) c b byte h = at_custom_size last counts (unsigned_push 32 r c) (b ++ c ∷ []) (at_size last counts 0 r b c byte h.0 h.1)
 step_framed p (machine.Custom last counts more q) c b byte h = in_custom last counts more (custom_step q c).0 (b ++ c ∷ []) (one_byte last 0 more b c h.0) h.1
 step_framed p (machine.Size of counts r) c b byte h = at_its_size h.0 of counts (unsigned_push 32 r c) (b ++ c ∷ []) h.1 (at_size h.0 counts (id_of of) r b c byte h.2 h.3)
 step_framed p (machine.Count of counts more r) c b byte h = at_count h.0 of counts more (unsigned_push 32 r c) (b ++ c ∷ []) h.1 (one_byte h.0 (id_of of) more b c h.2) h.3 (numbers r h.2.contents c byte h.4)
 step_framed p (machine.Section of counts more left q) c b byte h =
-    in_member h.0 of counts more left (member_step p q c).0 (b ++ c ∷ []) h.1 (one_byte h.0 (id_of of) more b c h.2) (one_more of counts h.2.contents h.2.past.declared c h.3)
+    in_member h.0 of counts more left (member_step p q c).0 (b ++ c ∷ []) h.1 (one_byte h.0 (id_of of) more b c h.2) (one_more of counts h.2.contents h.2.past.declared h.2.past.sections c h.3)
 step_framed p (machine.Refused w) c b byte h = tt
 
 heard_framed : (zone : Zone) (y : List ℕ) (c : ℕ) (m : Machine) (e : Event) (b : List ℕ) → Framed m b → Framed (byte_read machine.Refused zone y c (m, e)).at b

@@ -1,8 +1,10 @@
 -- Bytes that were not refused are the front of some module under `loose`.
-use Rattle.std.proofs.Common.{◌≡◌, ℕ, zero, suc, ◌-◌, List, [], ◌∷◌, ◌++◌, Option, Some, None, length, refl, sym, ◌∙◌, ap, inl, inr, arith, drop}
+use Rattle.std.proofs.Common.{◌≡◌, ℕ, zero, suc, ◌-◌, List, [], ◌∷◌, ◌++◌, None, Bool, true, false, length, refl, sym, ◌∙◌, ap, inl, inr, arith, drop}
 use Rattle.std.proofs.lemmas.Bool.{cond_both}
 use Rattle.std.specs.Str.{is_utf8}
+use Rattle.wm_syntax.specs.declared.profile.Feature.TheVariants.{BulkMemory}
 use Rattle.wm_syntax.specs.declared.profile.Profile.{Profile}
+use Rattle.wm_syntax.specs.Profiles.{has}
 use Rattle.wm_syntax.specs.Spelling.{AreBytes}
 use Rattle.wm_machine.specs.declared.machine.Counts.{Counts}
 use Rattle.wm_machine.specs.declared.machine.InCustom.{InCustom}
@@ -18,8 +20,8 @@ use Rattle.wm_machine.specs.declared.machine.member.InMember.TheVariants as at
 use Rattle.wm_machine.specs.Items.{Zone}
 use Rattle.wm_machine.specs.MarkedForms.{MarkedForm, MarkedByte, Then, Times, Counted, MarkedNumber, Name, Sized, Filled, nothing_at, marks_ending, outside_mark}
 use Rattle.wm_machine.specs.Sections.{header}
-use Rattle.wm_machine.specs.Grammar.{Contents, Customs, Optional, MayMiss, Chain, loose}
-use Rattle.wm_machine.specs.exact.Members.{id_of, section_kind_of}
+use Rattle.wm_machine.specs.Grammar.{ModuleCounts, HasSection, Contents, Customs, Optional, MayMiss, Chain, loose}
+use Rattle.wm_machine.specs.exact.Members.{id_of, rank_of}
 use Rattle.wm_machine.specs.exact.Steps.{no_counts, step_of}
 use Rattle.wm_machine.specs.exact.Runs.{zone_in, zone_of, byte_read, ByteRead, MachineState, after_byte, state_after, marks, state_at_start}
 use Rattle.wm_machine.specs.exact.Live.{IsRefused}
@@ -30,8 +32,9 @@ use Rattle.wm_machine.proofs.MemberBytes.{OneOf, ComponentRest}
 use Rattle.wm_machine.proofs.MemberSound.{CanGo}
 use Rattle.wm_machine.proofs.Customs.{unnamed, CustomRest}
 use Rattle.wm_machine.proofs.LaterNumbers.{ForSome}
-use Rattle.wm_machine.proofs.MachineStates.{IsNamed, component_named, FitsCustom, Fits, run_fits}
-use Rattle.wm_machine.proofs.WholeMachine.{Known, KnownIn, Later, After, InSize, ListOf, Listed, Within, MachineRest, begin_from, run_from}
+use Rattle.wm_machine.proofs.Chains.{Where}
+use Rattle.wm_machine.proofs.MachineStates.{FitsCustom, Fits, run_fits}
+use Rattle.wm_machine.proofs.WholeMachine.{freely, count_item, Known, KnownIn, Later, After, InSize, ListOf, Listed, Within, MachineRest, begin_from, run_from}
 use Rattle.wm_machine.proofs.MachineAndSink.{begin_fits}
 
 pub some_custom : (n : ℕ) (q : InCustom) (y : List ℕ) → FitsCustom q → Comes (CustomRest loose n q y)
@@ -41,52 +44,73 @@ some_custom n custom.Skip y h = record { bytes = zeros n; marks = marks_ending N
 some_custom n (custom.Failed w) y h = absurd h
 
 module _ (p : Profile) where
-  pub some_listed : (of : SectionKind) (f n : ℕ) → Comes (ListOf loose p of f n)
-  some_listed section_kind.Function f n = let t = some_times n (OneOf loose p section_kind.Function) (some_one p section_kind.Function) in record { bytes = t.bytes; marks = t.marks; spelled = ((λ d. absurd d), t.spelled) }
-  some_listed section_kind.Code f n = let t = some_times n (OneOf loose p section_kind.Code) (some_one p section_kind.Code) in record { bytes = t.bytes; marks = t.marks; spelled = ((λ d. absurd d), t.spelled) }
+  -- so many members, whatever number of them is required
+  required : (of : SectionKind) (n m : ℕ) → Comes (Where (loose → n ≡ m) (Times n (OneOf loose p of)))
+  required of n m = let t = some_times n (OneOf loose p of) (some_one p of) in record { bytes = t.bytes; marks = t.marks; spelled = ((λ d. absurd d), t.spelled) }
+
+  pub some_listed : (of : SectionKind) (f : ModuleCounts) (n : ℕ) → Comes (ListOf loose p of f n)
+  some_listed section_kind.Function f n = required section_kind.Function n f.functions
+  some_listed section_kind.DataCount f n = record { bytes = []; marks = []; spelled = ((λ d. absurd d), (refl, refl)) }
+  some_listed section_kind.Code f n = required section_kind.Code n f.functions
+  some_listed section_kind.Segment f n = required section_kind.Segment n f.segments
   some_listed of f n = some_times n (OneOf loose p of) (some_one p of)
 
-  some_contents : (of : SectionKind) (f : ℕ) → Comes (Contents loose p f (id_of of))
+  some_contents : (of : SectionKind) (f : ModuleCounts) → Comes (Contents loose p f (rank_of of))
   some_contents section_kind.Start f = some_one p section_kind.Start
-  some_contents of f = some_number nothing_at (ListOf loose p of f) (some_listed of f)
+  some_contents of f = some_number (count_item of) (ListOf loose p of f) (some_listed of f)
 
-  -- each section may be there
-  with_section : (f : ℕ) (of : SectionKind) → Comes (Optional loose p f (id_of of))
-  with_section f of =
-      let C : ℕ → MarkedForm = λ n. Sized loose n (Contents loose p f (id_of of)) in
+  -- each section that the profile has may be there
+  with_section : (f : ModuleCounts) (of : SectionKind) → HasSection p (rank_of of) → Comes (Optional loose p f (rank_of of))
+  with_section f of there =
+      let C : ℕ → MarkedForm = λ n. Sized loose n (Contents loose p f (rank_of of)) in
       let c = some_then (MarkedByte (id_of of) None) (MarkedNumber nothing_at C) (record { bytes = id_of of ∷ []; marks = outside_mark None ∷ []; spelled = (refl, refl) })
-      (some_number nothing_at C (λ n. some_sized n (Contents loose p f (id_of of)) (some_contents of f))) in
-      record { bytes = c.bytes; marks = c.marks; spelled = inl c.spelled }
+      (some_number nothing_at C (λ n. some_sized n (Contents loose p f (rank_of of)) (some_contents of f))) in
+      record { bytes = c.bytes; marks = c.marks; spelled = inl (there, c.spelled) }
 
-  without_section : (f id : ℕ) → MayMiss f id → Comes (Optional loose p f id)
-  without_section f id may = record { bytes = []; marks = []; spelled = inr (may, (refl, refl)) }
+  without_section : (f : ModuleCounts) (rank : ℕ) → MayMiss f rank → Comes (Optional loose p f rank)
+  without_section f rank may = record { bytes = []; marks = []; spelled = inr (may, (refl, refl)) }
 
-  by_component : (f id : ℕ) (of : Option SectionKind) → IsNamed id of → Comes (Optional loose p f id)
-  by_component f id None late = without_section f id (λ e. elim e [ inl a ↦ omega (arith, a, late) | inr a ↦ omega (arith, a, late) ])
-  by_component f id (Some of) e = rw e (with_section f of)
+  may_miss : (f : ModuleCounts) (rank : ℕ) → (rank ≡ 3 → ⊥) → (rank ≡ 11 → ⊥) → (rank ≡ 12 → ⊥) → MayMiss f rank
+  may_miss f rank a b c = ((λ e. elim e [ inl i ↦ absurd (a i) | inr i ↦ absurd (b i) ]), (λ e. absurd (c e)))
 
-  some_optional : (f id : ℕ) → Comes (Optional loose p f id)
-  some_optional f zero = without_section f 0 (λ e. elim e [ inl a ↦ omega (arith, a) | inr a ↦ omega (arith, a) ])
-  some_optional f (suc m) = by_component f (suc m) (section_kind_of (suc m)) (component_named m)
+  some_optional : (f : ModuleCounts) (rank : ℕ) → Comes (Optional loose p f rank)
+  some_optional f zero = without_section f 0 (may_miss f 0 (λ e. cc) (λ e. cc) (λ e. cc))
+  some_optional f (suc zero) = with_section f section_kind.Type (λ e. cc)
+  some_optional f (suc (suc zero)) = with_section f section_kind.Import (λ e. cc)
+  some_optional f (suc (suc (suc zero))) = with_section f section_kind.Function (λ e. cc)
+  some_optional f (suc (suc (suc (suc zero)))) = with_section f section_kind.Table (λ e. cc)
+  some_optional f (suc (suc (suc (suc (suc zero))))) = with_section f section_kind.Memory (λ e. cc)
+  some_optional f (suc (suc (suc (suc (suc (suc zero)))))) = with_section f section_kind.Global (λ e. cc)
+  some_optional f (suc (suc (suc (suc (suc (suc (suc zero))))))) = with_section f section_kind.Export (λ e. cc)
+  some_optional f (suc (suc (suc (suc (suc (suc (suc (suc zero)))))))) = with_section f section_kind.Start (λ e. cc)
+  some_optional f (suc (suc (suc (suc (suc (suc (suc (suc (suc zero))))))))) = with_section f section_kind.Element (λ e. cc)
+  some_optional f (suc (suc (suc (suc (suc (suc (suc (suc (suc (suc zero)))))))))) = by_feature (has p BulkMemory) refl
+    where
+      by_feature : (b : Bool) → has p BulkMemory ≡ b → Comes (Optional loose p f 10)
+      by_feature true is = with_section f section_kind.DataCount (λ e. is)
+      by_feature false is = without_section f 10 (may_miss f 10 (λ e. cc) (λ e. cc) (λ e. cc))
+  some_optional f (suc (suc (suc (suc (suc (suc (suc (suc (suc (suc (suc zero))))))))))) = with_section f section_kind.Code (λ e. cc)
+  some_optional f (suc (suc (suc (suc (suc (suc (suc (suc (suc (suc (suc (suc zero)))))))))))) = with_section f section_kind.Segment (λ e. cc)
+  some_optional f (suc (suc (suc (suc (suc (suc (suc (suc (suc (suc (suc (suc (suc n))))))))))))) = without_section f (suc (suc (suc (suc (suc (suc (suc (suc (suc (suc (suc (suc (suc n))))))))))))) (may_miss f (suc (suc (suc (suc (suc (suc (suc (suc (suc (suc (suc (suc (suc n))))))))))))) (λ e. absurd (omega (arith, e))) (λ e. absurd (omega (arith, e))) (λ e. absurd (omega (arith, e))))
 
   no_customs : Comes (Customs loose)
   no_customs = record { bytes = []; marks = []; spelled = (0, (refl, refl)) }
 
-  some_chain : (f count id : ℕ) → Comes (Chain loose p f count id)
+  some_chain : (f : ModuleCounts) (count id : ℕ) → Comes (Chain loose p f count id)
   some_chain f zero id = no_customs
   some_chain f (suc count) id = some_then (Customs loose) (Then (Optional loose p f id) (Chain loose p f count (suc id))) no_customs (some_then (Optional loose p f id) (Chain loose p f count (suc id)) (some_optional f id) (some_chain f count (suc id)))
 
-  some_for : (C : ℕ → Type 0) (P : ℕ → MarkedForm) (f : ℕ) → C f → Comes (P f) → Comes (ForSome C P)
+  some_for : (C : ModuleCounts → Type 0) (P : ModuleCounts → MarkedForm) (f : ModuleCounts) → C f → Comes (P f) → Comes (ForSome C P)
   some_for C P f c s = record { bytes = s.bytes; marks = s.marks; spelled = (f, c, s.spelled) }
 
   pub some_later : (last : ℕ) (counts : Counts) → Comes (Later loose p last counts)
-  some_later last counts = some_for (Known last counts) (λ f. Chain loose p f (11 - last) (suc last)) counts.functions (λ l. refl) (some_chain counts.functions (11 - last) (suc last))
+  some_later last counts = some_for (Known loose last counts) (λ f. Chain loose p f (12 - last) (suc last)) (freely counts) ((λ l. refl), (λ d. absurd d)) (some_chain (freely counts) (12 - last) (suc last))
 
-  pub some_after : (of : SectionKind) (f : ℕ) → Comes (After loose p of f)
-  some_after of f = some_chain f (11 - id_of of) (suc (id_of of))
+  pub some_after : (of : SectionKind) (f : ModuleCounts) → Comes (After loose p of f)
+  some_after of f = some_chain f (12 - rank_of of) (suc (rank_of of))
 
-  pub some_size : (of : SectionKind) (f n : ℕ) → Comes (InSize loose p of f n)
-  some_size of f n = some_then (Sized loose n (Contents loose p f (id_of of))) (After loose p of f) (some_sized n (Contents loose p f (id_of of)) (some_contents of f)) (some_after of f)
+  pub some_size : (of : SectionKind) (f : ModuleCounts) (n : ℕ) → Comes (InSize loose p of f n)
+  some_size of f n = some_then (Sized loose n (Contents loose p f (rank_of of))) (After loose p of f) (some_sized n (Contents loose p f (rank_of of)) (some_contents of f)) (some_after of f)
 
   some_within : (of : SectionKind) (left more : ℕ) (q : InMember) (y : List ℕ) → CanGo p more q → Comes (Within loose p of left q y)
   some_within of left more q y go = some_then (ComponentRest loose p q y) (Times left (OneOf loose p of)) (some_component p more q y go) (some_times left (OneOf loose p of) (some_one p of))
@@ -97,12 +121,12 @@ module _ (p : Profile) where
   some_machine (machine.Between last counts) y h live = some_later last counts
   some_machine (machine.CustomSize last counts r) y h live = some_counted nothing_at (λ n. Then (Filled loose n (Name loose unnamed)) (Later loose p last counts)) r h.0 (λ n. some_then (Filled loose n (Name loose unnamed)) (Later loose p last counts) (some_filled n (Name loose unnamed) (some_name unnamed)) (some_later last counts))
   some_machine (machine.Custom last counts more q) y h live = some_then (CustomRest loose (suc more) q y) (Later loose p last counts) (some_custom (suc more) q y h.1) (some_later last counts)
-  some_machine (machine.Size of counts r) y h live = some_for (KnownIn (id_of of) counts) (λ f. Counted (Left r) nothing_at (InSize loose p of f)) counts.functions (λ l. refl) (some_counted nothing_at (InSize loose p of counts.functions) r h.0 (some_size of counts.functions))
+  some_machine (machine.Size of counts r) y h live = some_for (KnownIn loose (rank_of of) counts) (λ f. Counted (Left r) nothing_at (InSize loose p of f)) (freely counts) ((λ l. refl), (λ d. absurd d)) (some_counted nothing_at (InSize loose p of (freely counts)) r h.0 (some_size of (freely counts)))
   some_machine (machine.Count of counts more r) y h live =
-      some_for (KnownIn (id_of of) counts) (λ f. Then (Sized loose (suc more) (Listed loose p of r f)) (After loose p of f)) counts.functions (λ l. refl)
-      (some_then (Sized loose (suc more) (Listed loose p of r counts.functions)) (After loose p of counts.functions) (some_sized (suc more) (Listed loose p of r counts.functions) (some_counted nothing_at (ListOf loose p of counts.functions) r h.0 (some_listed of counts.functions))) (some_after of counts.functions))
+      some_for (KnownIn loose (rank_of of) counts) (λ f. Then (Sized loose (suc more) (Listed loose p of r f)) (After loose p of f)) (freely counts) ((λ l. refl), (λ d. absurd d))
+      (some_then (Sized loose (suc more) (Listed loose p of r (freely counts))) (After loose p of (freely counts)) (some_sized (suc more) (Listed loose p of r (freely counts)) (some_counted (count_item of) (ListOf loose p of (freely counts)) r h.0 (some_listed of (freely counts)))) (some_after of (freely counts)))
   some_machine (machine.Section of counts more left q) y h live =
-      some_then (Sized loose (suc more) (Within loose p of left q y)) (Later loose p (id_of of) counts) (some_sized (suc more) (Within loose p of left q y) (some_within of left (suc more) q y h.2)) (some_later (id_of of) counts)
+      some_then (Sized loose (suc more) (Within loose p of left q y)) (Later loose p (rank_of of) counts) (some_sized (suc more) (Within loose p of left q y) (some_within of left (suc more) q y h.2)) (some_later (rank_of of) counts)
   some_machine (machine.Refused w) y h live = absurd (live tt)
 
   pub length_marks : (b : List ℕ) (s : MachineState) → length b ≡ length (marks p s b)

@@ -50,7 +50,7 @@ late_refused at h w = λ e. omega arith
 
 late : (p : Profile) (m : Machine) (c at : ℕ) → (IsHeader m → ⊥) → 8 ≤ at → IsAt (step_of p m c).0 (at + 1)
 late p m c at past h =
-    step_out (λ n. IsAt n (at + 1)) (late_live at h) (late_refused at h why.SectionEnd) (late_refused at h why.BadNumber) (late_refused at h why.SectionId) (late_refused at h why.SectionOrder) (late_refused at h why.CodeCount)
+    step_out (λ n. IsAt n (at + 1)) (late_live at h) (late_refused at h why.SectionEnd) (late_refused at h why.BadNumber) (late_refused at h why.SectionId) (late_refused at h why.SectionOrder) (late_refused at h why.CodeCount) (late_refused at h why.DataCount)
     p m c past (λ w e. late_refused at h w) (λ q w e. late_refused at h w) (λ q w e. late_refused at h w)
 
 pub stays : (p : Profile) (m : Machine) (c at : ℕ) → IsAt m at → IsAt (step_of p m c).0 (at + 1)

@@ -34,7 +34,7 @@ use Rattle.std.proofs.lemmas.Bool.{cond_both}
 use Rattle.std.proofs.lemmas.Nat.{pow_pos}
 use Rattle.wm_machine.specs.declared.step.values.InRun.{InRun}
 use Rattle.wm_machine.specs.declared.step.values.InRun.TheVariants as run_at
-use Rattle.wm_machine.specs.exact.Members.{id_of}
+use Rattle.wm_machine.specs.exact.Members.{rank_of}
 use Rattle.wm_machine.specs.Grammar.{ModuleForm, Run, Expression, loose}
 use Rattle.wm_machine.specs.MarkedForms.{MarkedForm, Then, Times, Leaf, Sized, marks_ending, entry_marks, outside_mark}
 use Rattle.wm_machine.proofs.OpenMembers.{Comes, some_times, some_runs, some_one}
@@ -92,6 +92,8 @@ step_enters p (machine.Section of counts more left (at.NameLength k r)) c e = cc
 step_enters p (machine.Section of counts more left (at.Name k n)) c e = cc
 step_enters p (machine.Section of counts more left (at.Value v)) c e = cc
 step_enters p (machine.Section of counts more left (at.Index x r)) c e = cc
+step_enters p (machine.Section of counts more left (at.SegmentStart k r)) c e = cc
+step_enters p (machine.Section of counts more left at.ElementKind) c e = cc
 step_enters p (machine.Section of counts more left (at.GlobalType g)) c e = cc
 step_enters p (machine.Section of counts more left (at.Constant k x)) c e = cc
 step_enters p (machine.Section of counts more left (at.Length k r)) c e = cc
@@ -219,7 +221,7 @@ module _ (p : Profile) where
   machine_comes of counts more left rest q y h i =
       let t = entry_comes (suc rest) q h i in
       let others = some_times left (OneOf loose p of) (some_one p of) in
-      let later = some_later p (id_of of) counts in
+      let later = some_later p (rank_of of) counts in
       let inner : RunComes (ComponentRest loose p (at.Entry rest q) y) = record {
         bytes = t.bytes;
         marks = entry_marks t.marks;
@@ -239,7 +241,7 @@ module _ (p : Profile) where
         rest = within.rest;
         first = within.first;
       } in
-      run_then (Sized loose (suc more) (Within loose p of left (at.Entry rest q) y)) (Later loose p (id_of of) counts) sized later
+      run_then (Sized loose (suc more) (Within loose p of left (at.Entry rest q) y)) (Later loose p (rank_of of) counts) sized later
 
   -- the machine before a byte of an op of a code entry
   record AtOp (m : Machine) : Type 0 where

@@ -1,5 +1,10 @@
 -- The bytes up to one that completes an item are a front, even if this byte is refused for a size.
 use Rattle.std.proofs.Common.{◌≡◌, ℕ, zero, suc, ◌<◌, ◌^◌, List, [], ◌∷◌, ◌++◌, Option, Some, None, Result, Ok, Err, refl, sym, ◌∙◌, ap, subst, arith, nat_eq, nat_lt, nat_le, append_assoc, length-append, true, false, cond, ◌+◌}
+use Rattle.wm_machine.proofs.SegmentStarts.{active_element, indexed_element, active_data, passive_data, indexed_data, refused}
+use Rattle.wm_syntax.specs.Profiles.{has}
+use Rattle.wm_syntax.specs.declared.profile.Feature.TheVariants.{BulkMemory}
+use Rattle.wm_machine.proofs.SegmentStarts.{begun_any}
+use Rattle.wm_machine.specs.exact.MemberSteps.{segment_begun, segment_unfinished}
 use Rattle.std.proofs.lemmas.Bool.{cond_both}
 use Rattle.std.specs.Prelude.{slice_index}
 use Rattle.std.specs.Str.{is_utf8}
@@ -37,6 +42,7 @@ use Rattle.wm_machine.specs.declared.machine.member.ConstantOf.{ConstantOf}
 use Rattle.wm_machine.specs.declared.machine.member.ConstantOf.TheVariants as constant
 use Rattle.wm_machine.specs.declared.machine.member.InEntry.{InEntry}
 use Rattle.wm_machine.specs.declared.machine.member.InEntry.TheVariants as entry
+use Rattle.wm_machine.specs.declared.machine.member.LengthOf.TheVariants as length_of
 use Rattle.wm_machine.specs.declared.machine.member.InMember.{InMember}
 use Rattle.wm_machine.specs.declared.machine.member.InMember.TheVariants as at
 use Rattle.wm_machine.specs.Items.{Item, body, Zone, outside, entry as in_entry, closing, Mark, Marks}
@@ -44,12 +50,12 @@ use Rattle.wm_machine.specs.MarkedForms.{MarkedForm, Then, Times, Counted, Sized
 use Rattle.wm_machine.specs.Sections.{header}
 use Rattle.wm_machine.specs.Grammar.{ModuleForm, loose}
 use Rattle.wm_machine.specs.Fronts.{IsFront}
-use Rattle.wm_machine.specs.exact.Members.{id_of, section_kind_of}
+use Rattle.wm_machine.specs.exact.Members.{rank_of, section_kind_of}
 use Rattle.wm_machine.specs.exact.ValueSteps.{value_type_of, global_type_push, run_push, value_push}
 use Rattle.wm_machine.specs.exact.OpSteps.{on_answer, op_push}
 use Rattle.wm_machine.specs.exact.ExpressionSteps.{start, ends, after_op, after_label, after_reading, expression_step}
 use Rattle.wm_machine.specs.exact.MemberSteps.{on_number, on_value, on_type, with_item_given, after_param, after_result, after_name, after_length, name_step, functions_or_over, index_item, after_index, constant_over, after_constant, op_event, data_or_over, list_or_over, runs_or_body, entry_after_op, entry_step, member_in_entry, member_step}
-use Rattle.wm_machine.specs.exact.Steps.{begun_last, custom_after_length, custom_step, machine_in_member, after_count, begun_section, machine_if_rising, section_start, after_size, custom_size, header_step, step_of}
+use Rattle.wm_machine.specs.exact.Steps.{begun_last, custom_after_length, custom_step, machine_in_member, machine_after_paired_count, count_event, after_count, begun_section, machine_if_rising, section_start, after_size, custom_size, header_step, step_of}
 use Rattle.wm_machine.specs.exact.Runs.{name_item, byte_read, ByteRead, zone_in, zone_of, read_byte, state_after, marks, state_at_start}
 use Rattle.wm_machine.proofs.FirstBytes.{Next}
 use Rattle.wm_machine.proofs.Numbers.{Left}
@@ -59,9 +65,9 @@ use Rattle.wm_machine.proofs.MemberSound.{CanEnter, MayEnter, entry_may, CanGo, 
 use Rattle.wm_machine.proofs.MemberBytes.{OneOf, InSize, ComponentRest, can_open, component_follows}
 use Rattle.wm_machine.proofs.OpenMembers.{Comes, some_empty, some_times, some_of_entry, some_size, some_component, some_one}
 use Rattle.wm_machine.proofs.MachineStates.{Fits, run_fits}
-use Rattle.wm_machine.proofs.WholeMachine.{Later, Within, MachineRest, begin_from, run_from}
+use Rattle.wm_machine.proofs.WholeMachine.{After, Listed, ListOf, count_item, freely, Later, Within, MachineRest, begin_from, run_from}
 use Rattle.wm_machine.proofs.MachineAndSink.{begin_fits}
-use Rattle.wm_machine.proofs.Fronts.{some_later, length_marks}
+use Rattle.wm_machine.proofs.Fronts.{some_after, some_later, some_listed, length_marks}
 
 -- a byte that completes the item, and what may come after it
 record Ends (P : MarkedForm) (c : ℕ) (x : Item) : Type 0 where
@@ -218,6 +224,7 @@ index_stands index.Segment = tt
 pub over_stands : (of : ConstantOf) → StandsAt (constant_over of)
 over_stands constant.Global = tt
 over_stands constant.Element = tt
+over_stands constant.IndexedElement = tt
 over_stands constant.Segment = tt
 
 constant_stands : (of : ConstantOf) (e : InExpression) → StandsIn e → StandsAt (after_constant of e)
@@ -289,6 +296,11 @@ module _ (zone : Zone) (y : List ℕ) (c : ℕ) (x : Item) where
   member_fine p (at.Name of more) i = name_fine of more
   member_fine p (at.Value v) i = value_fine at.Failed StandsAt zone y c x (value_push p v c) at.Value (λ q. with_item_given at.Over q) (λ q. stands at.Over (event.Complete q) tt)
   member_fine p (at.Index of r) i = number_fine at.Failed StandsAt zone y c x (unsigned_push 32 r c) (λ s. at.Index of s) (λ n. with_item_given (after_index of) (index_item of n)) (λ n. stands (after_index of) (event.Complete (index_item of n)) (index_stands of))
+  member_fine p (at.SegmentStart of r) i =
+      number_fine at.Failed StandsAt zone y c x (unsigned_push 32 r c) (segment_unfinished (has p BulkMemory) of) (segment_begun (has p BulkMemory) of)
+      (begun_any FineAt (λ n. stands active_element (event.Complete (plain.Element n)) tt) (stands at.ElementKind (event.Complete plain.PassiveElement) tt) (silent indexed_element)
+      (λ n. stands active_data (event.Complete (plain.Segment n)) tt) (stands passive_data (event.Complete plain.PassiveSegment) tt) (silent indexed_data) (silent refused) (has p BulkMemory) of)
+  member_fine p at.ElementKind i = cond_both (nat_eq c 0x00) _ _ FineAt (λ _. silent (at.Length length_of.Functions fresh)) (λ _. silent (at.Failed why.BadByte))
   member_fine p (at.GlobalType g) i = value_fine at.Failed StandsAt zone y c x (global_type_push p g c) at.GlobalType (λ t. with_item_given (at.Constant constant.Global start) (plain.Global t)) (λ t. stands (at.Constant constant.Global start) (event.Complete (plain.Global t)) tt)
   member_fine p (at.Constant of e) i = constant_fine of (expression_step p e c) (expression_gave p e c)
   member_fine p (at.Length of r) i = number_fine at.Failed StandsAt zone y c x (unsigned_push 32 r c) (λ s. at.Length of s) (λ n. (list_or_over of n, event.Nothing)) (λ n. silent (list_or_over of n))
@@ -391,13 +403,13 @@ begun_silent section_kind.Segment counts = at_last counts.functions
     at_last (suc n) = tt
 begun_silent of counts = tt
 
-rising_silent : (last : ℕ) (counts : Counts) (id : ℕ) (q : Option SectionKind) → IsSilent (machine_if_rising last counts id q).1
-rising_silent last counts id None = tt
-rising_silent last counts id (Some of) = cond_both (nat_le id last) _ _ (λ (q : Machine × Event). IsSilent q.1) (λ _. tt) (λ _. begun_silent of counts)
+rising_silent : (last : ℕ) (counts : Counts) (q : Option SectionKind) → IsSilent (machine_if_rising last counts q).1
+rising_silent last counts None = tt
+rising_silent last counts (Some of) = cond_both (nat_le (rank_of of) last) _ _ (λ (q : Machine × Event). IsSilent q.1) (λ _. tt) (λ _. begun_silent of counts)
 
-start_silent : (last : ℕ) (counts : Counts) (c : ℕ) → IsSilent (section_start last counts c).1
-start_silent last counts zero = tt
-start_silent last counts (suc m) = rising_silent last counts (suc m) (section_kind_of (suc m))
+start_silent : (p : Profile) (last : ℕ) (counts : Counts) (c : ℕ) → IsSilent (section_start p last counts c).1
+start_silent p last counts zero = tt
+start_silent p last counts (suc m) = rising_silent last counts (section_kind_of p (suc m))
 
 header_silent : (n c : ℕ) → IsSilent (header_step n c).1
 header_silent n c =
@@ -407,12 +419,6 @@ header_silent n c =
     (λ _. cond_both (nat_lt n 7) _ _ P (λ _. tt) (λ _. tt))
     (λ _. cond_both (nat_lt n 4) _ _ P (λ _. tt) (λ _. tt)))
     (λ _. tt)
-
-count_silent : (of : SectionKind) (counts : Counts) (more : ℕ) (q : Step ℕ × Partial) → IsSilent (after_count of counts more q).1
-count_silent of counts zero (step.More, s) = tt
-count_silent of counts (suc n) (step.More, s) = tt
-count_silent of counts more (step.Done n, s) = tt
-count_silent of counts more (step.Bad, s) = tt
 
 silent_none : (zone : Zone) (y : List ℕ) (c : ℕ) (m : Machine) (e : Event) (x : Item) → IsSilent e → (byte_read machine.Refused zone y c (m, e)).mark.item ≡ Some x → ⊥
 silent_none zone y c m event.Nothing x s i = no_item x i
@@ -428,15 +434,39 @@ module _ (p : Profile) (c : ℕ) (byte : c < 2 ^ 8) (x : Item) where
   mute : (m : Machine) (y : List ℕ) → IsSilent (step_of p m c).1 → EndsIn m y
   mute m y s i = absurd (silent_none (zone_of m) y c (step_of p m c).0 (step_of p m c).1 x s i)
 
+  -- the number in the data count section is an item
+  module _ (of : SectionKind) (counts : Counts) (more : ℕ) (r : Partial) (y : List ℕ) where
+    abbrev AtCount : MarkedForm
+    AtCount = MachineRest loose p (machine.Count of counts more r) y
+
+    number_ends : (v : ℕ) → Next loose (Listed loose p of r (freely counts)) c (outside_mark (count_item of v)) (ListOf loose p of (freely counts) v) → count_item of v ≡ Some x → Ends AtCount c x
+    number_ends v n i =
+        let L : MarkedForm = Listed loose p of r (freely counts) in
+        let e = ends_then c x (Sized loose (suc more) L) (After loose p of (freely counts)) (ends_sized c x (suc more) L (ends_next c x L (ListOf loose p of (freely counts) v) (outside_mark (count_item of v)) i n (some_listed p of (freely counts) v))) (some_after p of (freely counts)) in
+        record { mark = e.mark; completes = e.completes; bytes = e.bytes; later = e.later; spelled = (freely counts, ((λ l. refl), (λ d. absurd d)), e.spelled) }
+
+    count_ends : (q : Step ℕ × Partial) → CountedNext loose (count_item of) (ListOf loose p of (freely counts)) r c q → (byte_read machine.Refused outside y c (after_count of counts more q)).mark.item ≡ Some x → Ends AtCount c x
+    count_ends (step.More, s) n i = absurd (no_more more i)
+      where
+        no_more : (m : ℕ) → (byte_read machine.Refused outside y c (after_count of counts m (step.More, s))).mark.item ≡ Some x → ⊥
+        no_more zero i = no_item x i
+        no_more (suc k) i = no_item x i
+    count_ends (step.Done v, s) n i = number_ends v n (named of i)
+      where
+        named : (k : SectionKind) → (byte_read machine.Refused outside y c (machine_after_paired_count of counts more v, count_event k v)).mark.item ≡ Some x → count_item k v ≡ Some x
+        named section_kind.DataCount i = i
+        named k i = i
+    count_ends (step.Bad, s) n i = absurd (no_item x i)
+
   machine_ends : (m : Machine) (y : List ℕ) → Fits p m → EndsIn m y
   machine_ends (machine.Header n) y f = mute (machine.Header n) y (header_silent n c)
-  machine_ends (machine.Between last counts) y f = mute (machine.Between last counts) y (start_silent last counts c)
+  machine_ends (machine.Between last counts) y f = mute (machine.Between last counts) y (start_silent p last counts c)
   machine_ends (machine.CustomSize last counts r) y f =
       mute (machine.CustomSize last counts r) y (step_silent (unsigned_push 32 r c) (λ s. machine.CustomSize last counts s) (λ n. (custom_size last counts n, event.Nothing)) machine.Refused (λ n. tt))
   machine_ends (machine.Custom last counts more q) y f = mute (machine.Custom last counts more q) y (custom_silent q c)
   machine_ends (machine.Size of counts r) y f =
       mute (machine.Size of counts r) y (step_silent (unsigned_push 32 r c) (λ s. machine.Size of counts s) (λ n. (after_size of counts n, event.Nothing)) machine.Refused (λ n. tt))
-  machine_ends (machine.Count of counts more r) y f = mute (machine.Count of counts more r) y (count_silent of counts more (unsigned_push 32 r c))
+  machine_ends (machine.Count of counts more r) y f = count_ends of counts more r y (unsigned_push 32 r c) (counted_next loose (count_item of) (ListOf loose p of (freely counts)) r c byte)
   machine_ends (machine.Refused w) y f = mute (machine.Refused w) y tt
   machine_ends (machine.Section of counts more left q) y f = λ i.
       let z = member_step p q c in
@@ -444,7 +474,7 @@ module _ (p : Profile) (c : ℕ) (byte : c < 2 ^ 8) (x : Item) where
       let T : MarkedForm = Times left (OneOf loose p of) in
       let W : MarkedForm = Within loose p of left q y in
       let here : Ends W c x = ends_then c x (ComponentRest loose p q y) T (member_ends p c byte x more q y f.2 (sym same ∙ i)) (some_times left (OneOf loose p of) (some_one p of)) in
-      ends_then c x (Sized loose (suc more) W) (Later loose p (id_of of) counts) (ends_sized c x (suc more) W here) (some_later p (id_of of) counts)
+      ends_then c x (Sized loose (suc more) W) (Later loose p (rank_of of) counts) (ends_sized c x (suc more) W here) (some_later p (rank_of of) counts)
 
 -- the bytes with that byte are a front
 pub item_front : (p : Profile) (b : List ℕ) (c : ℕ) (x : Item) → AreBytes b → c < 2 ^ 8 → (read_byte p (state_after p state_at_start b) c).mark.item ≡ Some x

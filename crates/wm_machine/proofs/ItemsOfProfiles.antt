@@ -1,25 +1,25 @@
 -- Bytes spell something under a profile if and only if they spell it under one with more features and the profile has
 -- each item.
-use Rattle.std.proofs.Common.{◌≡◌, ℕ, None, Some, List, [], ◌∷◌, ◌++◌, map, flat_map, inl, inr, ◌∙◌}
+use Rattle.std.proofs.Common.{◌≡◌, ℕ, Option, None, Some, length, List, [], ◌∷◌, ◌++◌, map, flat_map, inl, inr, sym, subst, ◌∙◌}
 use Rattle.std.specs.List.{AllByRecursion}
 use Rattle.wm_syntax.specs.declared.types.ValType.{ValType}
 use Rattle.wm_syntax.specs.declared.instructions.Op.{Op}
 use Rattle.wm_syntax.specs.declared.modules.ImportDesc.{ImportDesc}
 use Rattle.wm_syntax.specs.declared.modules.ImportDesc.TheVariants.{Global}
 use Rattle.wm_syntax.specs.declared.profile.Profile.{Profile}
-use Rattle.wm_syntax.specs.Profiles.{Extends, HasDesc, HasSignature, HasType, IsOpOf}
+use Rattle.wm_syntax.specs.Profiles.{Extends, has, HasDesc, HasSignature, HasType, IsOpOf}
 use Rattle.wm_syntax.specs.Spelling.{Form, Each, ◌▸◌}
 use Rattle.wm_syntax.specs.Types.{Signature, SpellsLimits, SpellsSignature, SpellsTableType, SpellsU32}
 use Rattle.wm_syntax.specs.Modules.{Import}
 use Rattle.wm_syntax.proofs.ProfileLaws.{all_append, all_back, all_each, all_front, op_of_more, type_more}
-use Rattle.wm_machine.specs.BetweenProfiles.{EncodeAlike, HasItem}
+use Rattle.wm_machine.specs.BetweenProfiles.{EncodeAlike, FrontsAlike, HasItem, ReadSegmentsAlike}
 use Rattle.wm_machine.specs.Items.{Item, param, one_result, const_op, body_op, locals, element_function, data_byte, function, table, memory}
-use Rattle.wm_machine.specs.Sections.{Customs, ListSection, SpellsExport, SpellsImport, SpellsRun, StartSection, Those}
-use Rattle.wm_machine.specs.Flat.{FlatCode, FlatElement, FlatGlobal, FlatModule, FlatSegment, HasImport, SpellsFlat, SpellsFlatCode, SpellsFlatElement, SpellsFlatGlobal, SpellsFlatSegment, SpellsOps, code_items, element_items, export_items, flat_items, global_items, import_items, segment_items, start_items, type_items}
+use Rattle.wm_machine.specs.Sections.{Customs, ListSection, SpellsExport, SpellsElements, SpellsImport, SpellsMemory, SpellsRun, StartSection, Those}
+use Rattle.wm_machine.specs.Flat.{FlatCode, FlatDataCount, FlatElement, FlatGlobal, FlatModule, FlatSegment, HasImport, SpellsFlat, SpellsFlatCode, SpellsFlatElement, SpellsFlatGlobal, SpellsFlatOffset, SpellsFlatSegment, SpellsOps, element_head, segment_head, code_items, count_items, element_items, export_items, flat_items, global_items, import_items, segment_items, start_items, type_items}
 use Rattle.wm_syntax.specs.Encodings.{SpellsOp}
-use Rattle.wm_syntax.specs.declared.profile.Feature.TheVariants.{LongIndex}
+use Rattle.wm_syntax.specs.declared.profile.Feature.TheVariants.{BulkMemory, LongIndex}
 use Rattle.wm_syntax.proofs.SpelledMore.{op_spelled_more}
-use Rattle.wm_machine.proofs.Nesting.{each_more}
+use Rattle.wm_machine.proofs.Nesting.{FrontAlike, each_more, elements_more, fronts_alike, memory_more, offset_in, passive_elements_need, passive_needs, section_kept, with_offset}
 
 -- V is W with G beside it
 module _ {X : Type 0} (G : X → Type 0) (V W : X → Form ℕ) where
@@ -87,19 +87,23 @@ module _ (p : Profile) where
   OwnGlobal g = HasType p g.ty.ty × OwnOps g.init
 
   abbrev OwnElement : FlatElement → Type 0
-  OwnElement e = OwnOps e.offset
+  OwnElement e = HasItem p (element_head e.table) × OwnOps e.offset
+
+  abbrev OwnCount : Option ℕ → Type 0
+  OwnCount x = AllByRecursion (HasItem p) (count_items x)
 
   abbrev OwnCode : FlatCode → Type 0
   OwnCode c = AllByRecursion (λ r. HasType p r.1) c.runs × OwnOps c.ops
 
   abbrev OwnSegment : FlatSegment → Type 0
-  OwnSegment s = OwnOps s.offset
+  OwnSegment s = HasItem p (segment_head s.memory) × OwnOps s.offset
 
   record Owns (v : FlatModule) : Type 0 where
     types : AllByRecursion (HasSignature p) v.types
     imports : AllByRecursion (HasImport p) v.imports
     globals : AllByRecursion OwnGlobal v.globals
     elements : AllByRecursion OwnElement v.elements
+    count : OwnCount v.data_count
     codes : AllByRecursion OwnCode v.codes
     segments : AllByRecursion OwnSegment v.segments
 
@@ -110,6 +114,15 @@ module _ {X : Type 0} (H K : X → Type 0) (V : X → Form ℕ) (more : (x : X) 
 
   those_join : Joins H (Those H V) (Those K V)
   those_join x b h g = (g, h.1)
+
+-- the front of an element segment, and that of a data segment
+head_own : (p : Profile) (table : Option ℕ) (P : Form ℕ) (xs b : List ℕ) → SpellsElements (has p BulkMemory) table P xs b → HasItem p (element_head table)
+head_own p None P xs b h = passive_elements_need (has p BulkMemory) P xs b h
+head_own p (Some x) P xs b h = tt
+
+front_own : (p : Profile) (memory : Option ℕ) (b : List ℕ) → SpellsMemory (has p BulkMemory) memory b → HasItem p (segment_head memory)
+front_own p None b h = passive_needs (has p BulkMemory) b h
+front_own p (Some x) b h = tt
 
 module _ (p q : Profile) (more : Extends q p) where
   ops_part : (ops : List Op) (b : List ℕ) → SpellsOps p ops b → SpellsOps q ops b × OwnOps p ops
@@ -128,17 +141,28 @@ module _ (p q : Profile) (more : Extends q p) where
       let o = ops_part g.init h.1 h.4 in
       ((h.0, h.1, h.2, (type_more p q more g.ty.ty h.3.0, h.3.1), o.0), (h.3.0, o.1))
 
-  element_part : Parts (OwnElement p) (SpellsFlatElement p) (SpellsFlatElement q)
-  element_part e b h =
-      let i = h.4 in
-      let o = ops_part e.offset i.0 i.3 in
-      ((h.0, h.1, h.2, h.3, (i.0, i.1, i.2, o.0, i.4)), o.1)
+  offset_part : (memory : Option ℕ) (ops : List Op) (b : List ℕ) → SpellsFlatOffset p memory ops b → SpellsFlatOffset q memory ops b × OwnOps p ops
+  offset_part None ops b h = (h, subst (OwnOps p) (sym h.0) tt)
+  offset_part (Some x) ops b h = ops_part ops b h
 
-  segment_part : Parts (OwnSegment p) (SpellsFlatSegment p) (SpellsFlatSegment q)
-  segment_part s b h =
-      let i = h.4 in
-      let o = ops_part s.offset i.0 i.3 in
-      ((h.0, h.1, h.2, h.3, (i.0, i.1, i.2, o.0, i.4)), o.1)
+  element_own : Parts (OwnElement p) (SpellsFlatElement p) (SpellsFlatElement p)
+  element_own e b h =
+      let O : Form ℕ = SpellsFlatOffset p e.table e.offset in
+      let o = offset_in (has p BulkMemory) e.table O e.functions b h in
+      (h, (head_own p e.table O e.functions b h, (offset_part e.table e.offset o.0 o.1).1))
+
+  element_kept : (e : FlatElement) (b : List ℕ) → FrontAlike p q e.table → SpellsFlatElement p e b → SpellsFlatElement q e b
+  element_kept e b g h =
+      let O : Form ℕ = SpellsFlatOffset p e.table e.offset in
+      with_offset (has q BulkMemory) e.table O (SpellsFlatOffset q e.table e.offset) e.functions b (λ c k. (offset_part e.table e.offset c k).0)
+      (elements_more (has p BulkMemory) (has q BulkMemory) e.table O e.functions b (more BulkMemory) g h)
+
+  segment_own : Parts (OwnSegment p) (SpellsFlatSegment p) (SpellsFlatSegment p)
+  segment_own s b h = let i = h.4 in (h, (front_own p s.memory h.0 h.3, (offset_part s.memory s.offset i.0 i.3).1))
+
+  segment_kept : (s : FlatSegment) (b : List ℕ) → FrontAlike p q s.memory → SpellsFlatSegment p s b → SpellsFlatSegment q s b
+  segment_kept s b g h = let i = h.4 in
+      (h.0, h.1, h.2, memory_more (has p BulkMemory) (has q BulkMemory) s.memory h.0 (more BulkMemory) g h.3, (i.0, i.1, i.2, (offset_part s.memory s.offset i.0 i.3).0, i.4))
 
   run_part : Parts (λ r. HasType p r.1) (SpellsRun p) (SpellsRun q)
   run_part r b h = ((type_more p q more r.1 h.0, h.1), h.0)
@@ -151,12 +175,16 @@ module _ (p q : Profile) (more : Extends q p) where
       let o = ops_part c.ops i.1 i.4 in
       ((h.0, h.1, h.2, h.3, (i.0, i.1, i.2, (l.0, l.1, l.2, l.3, r.0), o.0)), (r.1, o.1))
 
+  count_part : (n : ℕ) (x : Option ℕ) (b : List ℕ) → FlatDataCount p n x b → FlatDataCount q n x b × OwnCount p x
+  count_part n None b h = (h, tt)
+  count_part n (Some count) b h = ((more BulkMemory h.0, h.1, h.2), (h.0, tt))
+
   import_more : (i : Import) → HasImport p i → HasImport q i
   import_more i h = desc_more i.desc h
 
   module _ (v : FlatModule) where
-    module_parts : (b : List ℕ) → SpellsFlat p v b → SpellsFlat q v b × Owns p v
-    module_parts b h =
+    module_parts : (b : List ℕ) → FrontsAlike p q (map (λ e. e.table) v.elements) → FrontsAlike p q (map (λ s. s.memory) v.segments) → SpellsFlat p v b → SpellsFlat q v b × Owns p v
+    module_parts b elements segments h =
         let chain =
         next (list_parts _ _ _ (those_part (HasSignature p) (HasSignature q) SpellsSignature signature_more) 1 v.types)
         (next (list_parts _ _ _ (those_part (HasImport p) (HasImport q) SpellsImport import_more) 2 v.imports)
@@ -166,33 +194,44 @@ module _ (p q : Profile) (more : Extends q p) where
         (next (list_parts (OwnGlobal p) (SpellsFlatGlobal p) (SpellsFlatGlobal q) global_part 6 v.globals)
         (next (same (ListSection 7 SpellsExport v.exports))
         (next (same (StartSection v.start))
-        (next (list_parts (OwnElement p) (SpellsFlatElement p) (SpellsFlatElement q) element_part 9 v.elements)
+        (next (λ d s. (section_kept (λ e. FrontAlike p q e.table) (SpellsFlatElement p) (SpellsFlatElement q) element_kept 9 v.elements d (fronts_alike p q (λ e. e.table) v.elements elements) s, (list_parts (OwnElement p) (SpellsFlatElement p) (SpellsFlatElement p) element_own 9 v.elements d s).1))
+        (next (count_part (length v.segments) v.data_count)
         (next (list_parts (OwnCode p) (SpellsFlatCode p) (SpellsFlatCode q) code_part 10 v.codes)
-        (next (list_parts (OwnSegment p) (SpellsFlatSegment p) (SpellsFlatSegment q) segment_part 11 v.segments)
-        (same Customs))))))))))) in
+        (next (λ d s. (section_kept (λ s. FrontAlike p q s.memory) (SpellsFlatSegment p) (SpellsFlatSegment q) segment_kept 11 v.segments d (fronts_alike p q (λ s. s.memory) v.segments segments) s, (list_parts (OwnSegment p) (SpellsFlatSegment p) (SpellsFlatSegment p) segment_own 11 v.segments d s).1))
+        (same Customs)))))))))))) in
         let i = h.1 in
         let u = chain i.1 i.4 in
         let g3 = u.1.1.1 in
         let g6 = g3.1.1.1 in
         let g9 = g6.1.1.1 in
-        ((h.0, (i.0, i.1, i.2, i.3, u.0)), record { types = u.1.0; imports = u.1.1.0; globals = g6.0; elements = g9.0; codes = g9.1.0; segments = g9.1.1.0 })
+        ((h.0, (i.0, i.1, i.2, i.3, u.0)), record { types = u.1.0; imports = u.1.1.0; globals = g6.0; elements = g9.0; count = g9.1.0; codes = g9.1.1.0; segments = g9.1.1.1.0 })
 
   -- the same way back, if a table index has the same bytes under both
-  module _ (alike : EncodeAlike p q) where
+  module _ (alike : EncodeAlike p q) (fronts : ReadSegmentsAlike p q) where
     ops_join : (ops : List Op) (b : List ℕ) → SpellsOps q ops b → OwnOps p ops → SpellsOps p ops b
     ops_join ops b h g = (h.0, g, each_more (SpellsOp q) (SpellsOp p) (op_spelled_more q p (λ y. alike ∙ y)) ops b h.2)
 
     global_join : Joins (OwnGlobal p) (SpellsFlatGlobal p) (SpellsFlatGlobal q)
     global_join g b h a = (h.0, h.1, h.2, (a.0, h.3.1), ops_join g.init h.1 h.4 a.1)
 
+    offset_join : (memory : Option ℕ) (ops : List Op) (b : List ℕ) → SpellsFlatOffset q memory ops b → OwnOps p ops → SpellsFlatOffset p memory ops b
+    offset_join None ops b h g = h
+    offset_join (Some x) ops b h g = ops_join ops b h g
+
     element_join : Joins (OwnElement p) (SpellsFlatElement p) (SpellsFlatElement q)
-    element_join e b h a = let i = h.4 in (h.0, h.1, h.2, h.3, (i.0, i.1, i.2, ops_join e.offset i.0 i.3 a, i.4))
+    element_join e b h a =
+        let O : Form ℕ = SpellsFlatOffset q e.table e.offset in
+        with_offset (has p BulkMemory) e.table O (SpellsFlatOffset p e.table e.offset) e.functions b (λ c k. offset_join e.table e.offset c k a.1) (subst (λ f. SpellsElements f e.table O e.functions b) (sym fronts) h)
 
     segment_join : Joins (OwnSegment p) (SpellsFlatSegment p) (SpellsFlatSegment q)
-    segment_join s b h a = let i = h.4 in (h.0, h.1, h.2, h.3, (i.0, i.1, i.2, ops_join s.offset i.0 i.3 a, i.4))
+    segment_join s b h a = let i = h.4 in (h.0, h.1, h.2, subst (λ f. SpellsMemory f s.memory h.0) (sym fronts) h.3, (i.0, i.1, i.2, offset_join s.memory s.offset i.0 i.3 a.1, i.4))
 
     run_join : Joins (λ r. HasType p r.1) (SpellsRun p) (SpellsRun q)
     run_join r b h a = (a, h.1)
+
+    count_join : (n : ℕ) (x : Option ℕ) (b : List ℕ) → FlatDataCount q n x b → OwnCount p x → FlatDataCount p n x b
+    count_join n None b h a = h
+    count_join n (Some count) b h a = (a.0, h.1, h.2)
 
     code_join : Joins (OwnCode p) (SpellsFlatCode p) (SpellsFlatCode q)
     code_join c b h a =
@@ -212,9 +251,10 @@ module _ (p q : Profile) (more : Extends q p) where
         (next (same (ListSection 7 SpellsExport v.exports))
         (next (same (StartSection v.start))
         (next (with_none _ _ (λ d s. list_joins (OwnElement p) (SpellsFlatElement p) (SpellsFlatElement q) element_join 9 v.elements d s g.elements))
+        (next (with_none _ _ (λ d s. count_join (length v.segments) v.data_count d s g.count))
         (next (with_none _ _ (λ d s. list_joins (OwnCode p) (SpellsFlatCode p) (SpellsFlatCode q) code_join 10 v.codes d s g.codes))
         (next (with_none _ _ (λ d s. list_joins (OwnSegment p) (SpellsFlatSegment p) (SpellsFlatSegment q) segment_join 11 v.segments d s g.segments))
-        (same Customs))))))))))) in
+        (same Customs)))))))))))) in
         let i = h.1 in
         (h.0, (i.0, i.1, i.2, i.3, (chain i.1 i.4).0))
 
@@ -277,8 +317,11 @@ module _ (p : Profile) where
 
   module _ (v : FlatModule) where
     -- the items from a section on
+    abbrev from_11 : List Item
+    from_11 = flat_map code_items v.codes ++ flat_map segment_items v.segments
+
     abbrev from_10 : List Item
-    from_10 = flat_map code_items v.codes ++ flat_map segment_items v.segments
+    from_10 = count_items v.data_count ++ from_11
 
     abbrev from_9 : List Item
     from_9 = flat_map element_items v.elements ++ from_10
@@ -325,9 +368,10 @@ module _ (p : Profile) where
         (both_own (flat_map export_items v.exports) from_8 exports_own
         (both_own (start_items v.start) from_9 start_own
         (both_own (flat_map element_items v.elements) from_10
-        (many_own element_items (OwnElement p) (λ e k. (tt, ops_own const_op element_function (λ o i. i) (λ x. tt) e.offset e.functions k)) v.elements h.elements)
+        (many_own element_items (OwnElement p) (λ e k. (k.0, ops_own const_op element_function (λ o i. i) (λ x. tt) e.offset e.functions k.1)) v.elements h.elements)
+        (both_own (count_items v.data_count) from_11 h.count
         (both_own (flat_map code_items v.codes) (flat_map segment_items v.segments) (many_own code_items (OwnCode p) code_own v.codes h.codes)
-        (many_own segment_items (OwnSegment p) (λ s k. (tt, ops_own const_op data_byte (λ o i. i) (λ x. tt) s.offset s.bytes k)) v.segments h.segments))))))))))
+        (many_own segment_items (OwnSegment p) (λ s k. (k.0, ops_own const_op data_byte (λ o i. i) (λ x. tt) s.offset s.bytes k.1)) v.segments h.segments)))))))))))
 
     items_owned : Own (flat_items v) → Owns p v
     items_owned h =
@@ -340,17 +384,19 @@ module _ (p : Profile) where
         let h8 = all_back (HasItem p) (flat_map export_items v.exports) from_8 h7 in
         let h9 = all_back (HasItem p) (start_items v.start) from_9 h8 in
         let h10 = all_back (HasItem p) (flat_map element_items v.elements) from_10 h9 in
+        let h11 = all_back (HasItem p) (count_items v.data_count) from_11 h10 in
         record {
           types = many_owned type_items (HasSignature p) type_owned v.types (all_front (HasItem p) (flat_map type_items v.types) from_2 h);
           imports = many_owned import_items (HasImport p) (λ i k. k.1.1.0) v.imports (all_front (HasItem p) (flat_map import_items v.imports) from_3 h2);
           globals = many_owned global_items (OwnGlobal p) (λ g k. (k.0, map_owned const_op g.init k.1)) v.globals (all_front (HasItem p) (flat_map global_items v.globals) from_7 h6);
-          elements = many_owned element_items (OwnElement p) (λ e k. const_owned e.offset (map element_function e.functions) k.1) v.elements (all_front (HasItem p) (flat_map element_items v.elements) from_10 h9);
-          codes = many_owned code_items (OwnCode p) code_owned v.codes (all_front (HasItem p) (flat_map code_items v.codes) (flat_map segment_items v.segments) h10);
-          segments = many_owned segment_items (OwnSegment p) (λ s k. const_owned s.offset (map data_byte s.bytes) k.1) v.segments (all_back (HasItem p) (flat_map code_items v.codes) (flat_map segment_items v.segments) h10);
+          elements = many_owned element_items (OwnElement p) (λ e k. (k.0, const_owned e.offset (map element_function e.functions) k.1)) v.elements (all_front (HasItem p) (flat_map element_items v.elements) from_10 h9);
+          count = all_front (HasItem p) (count_items v.data_count) from_11 h10;
+          codes = many_owned code_items (OwnCode p) code_owned v.codes (all_front (HasItem p) (flat_map code_items v.codes) (flat_map segment_items v.segments) h11);
+          segments = many_owned segment_items (OwnSegment p) (λ s k. (k.0, const_owned s.offset (map data_byte s.bytes) k.1)) v.segments (all_back (HasItem p) (flat_map code_items v.codes) (flat_map segment_items v.segments) h11);
         }
 
-pub spelled_of_items : (p q : Profile) (v : FlatModule) (b : List ℕ) → Extends q p → SpellsFlat p v b → SpellsFlat q v b × AllByRecursion (HasItem p) (flat_items v)
-spelled_of_items p q v b more h = let u = module_parts p q more v b h in (u.0, items_own p v u.1)
+pub spelled_of_items : (p q : Profile) (v : FlatModule) (b : List ℕ) → Extends q p → FrontsAlike p q (map (λ e. e.table) v.elements) → FrontsAlike p q (map (λ s. s.memory) v.segments) → SpellsFlat p v b → SpellsFlat q v b × AllByRecursion (HasItem p) (flat_items v)
+spelled_of_items p q v b more elements segments h = let u = module_parts p q more v b elements segments h in (u.0, items_own p v u.1)
 
-pub spelled_by_items : (p q : Profile) (v : FlatModule) (b : List ℕ) → Extends q p → EncodeAlike p q → SpellsFlat q v b → AllByRecursion (HasItem p) (flat_items v) → SpellsFlat p v b
-spelled_by_items p q v b more alike h own = module_joins p q more alike v b h (items_owned p v own)
+pub spelled_by_items : (p q : Profile) (v : FlatModule) (b : List ℕ) → Extends q p → EncodeAlike p q → ReadSegmentsAlike p q → SpellsFlat q v b → AllByRecursion (HasItem p) (flat_items v) → SpellsFlat p v b
+spelled_by_items p q v b more alike fronts h own = module_joins p q more alike fronts v b h (items_owned p v own)

@@ -21,6 +21,7 @@ pub mod MemberBytes
 pub mod MemberFloats
 pub mod OpenMembers
 pub mod Customs
+pub mod Ranks
 pub mod Chains
 pub mod LaterNumbers
 pub mod MachineStates
@@ -38,6 +39,7 @@ pub mod Fronts
 pub mod Zones
 pub mod Those
 pub mod ReadValues
+pub mod CountedSections
 pub mod GrammarValues
 pub mod ExpressionOps
 pub mod Nesting
@@ -58,6 +60,7 @@ pub mod WrongMembers
 pub mod BadNames
 pub mod NumbersAtHand
 pub mod SectionEnds
+pub mod SegmentStarts
 pub mod BodyEnds
 pub mod BadNumbers
 pub mod FormatMeanings

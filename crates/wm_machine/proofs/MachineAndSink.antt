@@ -21,7 +21,7 @@ use Rattle.wm_machine.specs.exact.Runs.{name_item, zone_of, byte_read, ByteRead,
 use Rattle.wm_machine.specs.exact.Live.{answer_between, effect_of_maybe, event_effect, Live, live_or_refused, live_from, live_byte, decoder_after, live_at_start, IsRefused, answer_at_end_of, answer_at_end}
 use Rattle.wm_machine.specs.Decoding.{Setting, Takes}
 use Rattle.wm_machine.proofs.MachineStates.{run_fits}
-use Rattle.wm_machine.proofs.WholeMachine.{MayEnd, MachineRest, StateRest, begin_to, begin_from, run_to, run_from, ends, may_end}
+use Rattle.wm_machine.proofs.WholeMachine.{Agrees, MayEnd, MachineRest, StateRest, begin_to, begin_from, run_to, run_from, ends, may_end}
 
 cases_nil : (b : List ℕ) → (b ≡ []) ⊎ (b ≡ [] → ⊥)
 cases_nil [] = inl refl
@@ -175,16 +175,23 @@ module _ {H : Type 0} (after : H → Item → Result H Why) (p : Profile) (limit
 
   -- a whole input
   ended_between : (m : Machine) (h g : H) (at : ℕ) → answer_at_end_of m h at ≡ Ok g → MayEnd m × (h ≡ g)
-  ended_between (machine.Between last counts) h g at e = between counts.functions e
+  ended_between (machine.Between last counts) h g at e = between counts.functions counts.segments e
     where
-      between : (n : ℕ) → answer_between n h at ≡ Ok g → (n ≡ 0) × (h ≡ g)
-      between zero e = (refl, cc)
-      between (suc n) e = cc
+      between : (n : ℕ) (s : Option ℕ) → answer_between n s h at ≡ Ok g → ((n ≡ 0) × Agrees s 0) × (h ≡ g)
+      between (suc n) s e = cc
+      between zero None e = ((refl, tt), cc)
+      between zero (Some zero) e = ((refl, refl), cc)
+      between zero (Some (suc n)) e = cc
   ended_between (machine.Refused w) h g at e = cc
   ended_between m h g at e = cc
 
   between_ended : (m : Machine) (h : H) (at : ℕ) → MayEnd m → answer_at_end_of m h at ≡ Ok h
-  between_ended (machine.Between last counts) h at i = ap (λ n. answer_between n h at) i
+  between_ended (machine.Between last counts) h at i = ap (λ n. answer_between n counts.segments h at) i.0 ∙ given counts.segments i.1
+    where
+      given : (s : Option ℕ) → Agrees s 0 → answer_between zero s h at ≡ Ok h
+      given None a = refl
+      given (Some zero) a = refl
+      given (Some (suc n)) a = cc
   between_ended m h at i = absurd i
 
   between_live : (m : Machine) → MayEnd m → IsRefused m → ⊥

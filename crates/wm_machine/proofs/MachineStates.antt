@@ -1,8 +1,10 @@
 -- The possible states of the machine; each byte leads to one of them.
-use Rattle.std.proofs.Common.{◌≡◌, ℕ, zero, suc, ◌<◌, ◌≤◌, ◌^◌, List, [], ◌∷◌, ◌++◌, Option, Some, None, refl, arith, nat_eq, nat_lt, nat_le}
+use Rattle.std.proofs.Common.{◌≡◌, ℕ, zero, suc, ◌<◌, ◌≤◌, ◌^◌, List, [], ◌∷◌, ◌++◌, Option, Some, None, Bool, true, false, if◌then◌else◌, refl, sym, arith, nat_eq, nat_lt, nat_le}
 use Rattle.std.proofs.lemmas.Bool.{cond_both, leb-false, ltb-true}
 use Rattle.std.specs.Str.{is_utf8}
+use Rattle.wm_syntax.specs.declared.profile.Feature.TheVariants.{BulkMemory}
 use Rattle.wm_syntax.specs.declared.profile.Profile.{Profile}
+use Rattle.wm_syntax.specs.Profiles.{has}
 use Rattle.wm_syntax.specs.Spelling.{AreBytes}
 use Rattle.wm_syntax.specs.declared.numbers.Step.{Step}
 use Rattle.wm_syntax.specs.declared.numbers.Step.TheVariants.{More, Done, Bad}
@@ -21,40 +23,77 @@ use Rattle.wm_machine.specs.declared.machine.member.SectionKind.{SectionKind}
 use Rattle.wm_machine.specs.declared.machine.member.SectionKind.TheVariants as section_kind
 use Rattle.wm_machine.specs.declared.machine.member.InMember.{InMember}
 use Rattle.wm_machine.specs.declared.machine.member.InMember.TheVariants as at
+use Rattle.wm_machine.specs.Grammar.{HasSection, id_at}
 use Rattle.wm_machine.specs.Items.{Zone}
-use Rattle.wm_machine.specs.exact.Members.{id_of, section_kind_of, member_at_start as begin_component}
+use Rattle.wm_machine.specs.exact.Members.{id_of, rank_of, section_kind_of, member_at_start as begin_component}
 use Rattle.wm_machine.specs.exact.MemberSteps.{on_number, member_step}
-use Rattle.wm_machine.specs.exact.Steps.{counts_in, begun_last, custom_after_length, machine_in_custom, custom_step, machine_in_member, machine_after_count, machine_after_paired_count, after_count, begun_section, machine_if_rising, section_start, after_size, custom_size, header_step, step_of}
+use Rattle.wm_machine.specs.exact.Steps.{counts_in, is_given, begun_last, custom_after_length, machine_in_custom, custom_step, machine_in_member, machine_after_count, machine_after_paired_count, after_count, begun_section, machine_if_rising, section_start, after_size, custom_size, header_step, step_of}
 use Rattle.wm_machine.specs.exact.Runs.{byte_read, ByteRead, MachineState, zone_of, after_byte, state_after}
 use Rattle.wm_machine.proofs.MemberSound.{CanGo, MayGo, can_begin, can_go_on}
+use Rattle.wm_machine.proofs.Ranks.{id_few, rank_is}
 use Rattle.wm_machine.proofs.OpSound.{HasRoom, RoomAfter, fresh_32, unsigned_room}
 
--- which member an id stands for
-abbrev pub IsNamed : ℕ → Option SectionKind → Type 0
-IsNamed id None = 11 < id
-IsNamed id (Some of) = id ≡ id_of of
+-- which section an id stands for
+abbrev pub IsNamed : Profile → ℕ → Option SectionKind → Type 0
+IsNamed p id None = (rank : ℕ) → rank ≤ 12 → HasSection p rank → id ≡ id_at rank → ⊥
+IsNamed p id (Some of) = (id ≡ id_of of) × HasSection p (rank_of of)
 
-pub component_named : (m : ℕ) → IsNamed (suc m) (section_kind_of (suc m))
-component_named zero = refl
-component_named (suc zero) = refl
-component_named (suc (suc zero)) = refl
-component_named (suc (suc (suc zero))) = refl
-component_named (suc (suc (suc (suc zero)))) = refl
-component_named (suc (suc (suc (suc (suc zero))))) = refl
-component_named (suc (suc (suc (suc (suc (suc zero)))))) = refl
-component_named (suc (suc (suc (suc (suc (suc (suc zero))))))) = refl
-component_named (suc (suc (suc (suc (suc (suc (suc (suc zero)))))))) = refl
-component_named (suc (suc (suc (suc (suc (suc (suc (suc (suc zero))))))))) = refl
-component_named (suc (suc (suc (suc (suc (suc (suc (suc (suc (suc zero)))))))))) = refl
-component_named (suc (suc (suc (suc (suc (suc (suc (suc (suc (suc (suc m))))))))))) = omega arith
+-- every profile has the other sections
+pub component_named : (p : Profile) (m : ℕ) → IsNamed p (suc m) (section_kind_of p (suc m))
+component_named p zero = (refl, λ e. absurd (omega (arith, e)))
+component_named p (suc zero) = (refl, λ e. absurd (omega (arith, e)))
+component_named p (suc (suc zero)) = (refl, λ e. absurd (omega (arith, e)))
+component_named p (suc (suc (suc zero))) = (refl, λ e. absurd (omega (arith, e)))
+component_named p (suc (suc (suc (suc zero)))) = (refl, λ e. absurd (omega (arith, e)))
+component_named p (suc (suc (suc (suc (suc zero))))) = (refl, λ e. absurd (omega (arith, e)))
+component_named p (suc (suc (suc (suc (suc (suc zero)))))) = (refl, λ e. absurd (omega (arith, e)))
+component_named p (suc (suc (suc (suc (suc (suc (suc zero))))))) = (refl, λ e. absurd (omega (arith, e)))
+component_named p (suc (suc (suc (suc (suc (suc (suc (suc zero)))))))) = (refl, λ e. absurd (omega (arith, e)))
+component_named p (suc (suc (suc (suc (suc (suc (suc (suc (suc zero))))))))) = (refl, λ e. absurd (omega (arith, e)))
+component_named p (suc (suc (suc (suc (suc (suc (suc (suc (suc (suc zero)))))))))) = (refl, λ e. absurd (omega (arith, e)))
+component_named p (suc (suc (suc (suc (suc (suc (suc (suc (suc (suc (suc zero))))))))))) = by_feature (has p BulkMemory) refl
+  where
+    by_feature : (b : Bool) → has p BulkMemory ≡ b → IsNamed p 12 (if b then Some section_kind.DataCount else None)
+    by_feature true is = (refl, λ e. is)
+    by_feature false is = λ rank few there id. let sure : p.bulk_memory ≡ true = there (sym (rank_is 12 rank id)) in cc (is, sure)
+component_named p (suc (suc (suc (suc (suc (suc (suc (suc (suc (suc (suc (suc m)))))))))))) = λ rank few there id. omega (arith, id, id_few rank few)
 
--- functions await their code only between the section of functions and that of code
+pub rank_few : (of : SectionKind) → rank_of of ≤ 12
+rank_few section_kind.Type = omega arith
+rank_few section_kind.Import = omega arith
+rank_few section_kind.Function = omega arith
+rank_few section_kind.Table = omega arith
+rank_few section_kind.Memory = omega arith
+rank_few section_kind.Global = omega arith
+rank_few section_kind.Export = omega arith
+rank_few section_kind.Start = omega arith
+rank_few section_kind.Element = omega arith
+rank_few section_kind.DataCount = omega arith
+rank_few section_kind.Code = omega arith
+rank_few section_kind.Segment = omega arith
+
+pub rank_some : (of : SectionKind) → 0 < rank_of of
+rank_some section_kind.Type = omega arith
+rank_some section_kind.Import = omega arith
+rank_some section_kind.Function = omega arith
+rank_some section_kind.Table = omega arith
+rank_some section_kind.Memory = omega arith
+rank_some section_kind.Global = omega arith
+rank_some section_kind.Export = omega arith
+rank_some section_kind.Start = omega arith
+rank_some section_kind.Element = omega arith
+rank_some section_kind.DataCount = omega arith
+rank_some section_kind.Code = omega arith
+rank_some section_kind.Segment = omega arith
+
+-- Functions await their code only between the section of functions and that of code. The number of data segments is
+-- given only between the data count section and the data section.
 abbrev pub FitsAt : (last : ℕ) (counts : Counts) → Type 0
-FitsAt last counts = (last < 3 → counts.functions ≡ 0) × (10 ≤ last → counts.functions ≡ 0)
+FitsAt last counts = (last < 3 → counts.functions ≡ 0) × (11 ≤ last → counts.functions ≡ 0) × (last < 10 → counts.segments ≡ None) × (12 ≤ last → counts.segments ≡ None)
 
--- the same where the section of this id has begun
-abbrev pub FitsIn : (id : ℕ) (counts : Counts) → Type 0
-FitsIn id counts = (id ≤ 3 → counts.functions ≡ 0) × (10 < id → counts.functions ≡ 0)
+-- the same where the section of this rank has begun
+abbrev pub FitsIn : (rank : ℕ) (counts : Counts) → Type 0
+FitsIn rank counts = (rank ≤ 3 → counts.functions ≡ 0) × (11 < rank → counts.functions ≡ 0) × (rank ≤ 10 → counts.segments ≡ None)
 
 -- in a custom section
 abbrev pub FitsCustom : InCustom → Type 0
@@ -85,9 +124,9 @@ Fits p (machine.Header n) = n < 8
 Fits p (machine.Between last counts) = FitsAt last counts
 Fits p (machine.CustomSize last counts r) = HasRoom 32 r × FitsAt last counts
 Fits p (machine.Custom last counts more q) = FitsAt last counts × FitsCustom q
-Fits p (machine.Size of counts r) = HasRoom 32 r × FitsIn (id_of of) counts
-Fits p (machine.Count of counts more r) = HasRoom 32 r × FitsIn (id_of of) counts × (suc more < 2 ^ 32)
-Fits p (machine.Section of counts more left q) = FitsAt (id_of of) counts × (suc more < 2 ^ 32) × CanGo p (suc more) q
+Fits p (machine.Size of counts r) = HasRoom 32 r × FitsIn (rank_of of) counts
+Fits p (machine.Count of counts more r) = HasRoom 32 r × FitsIn (rank_of of) counts × (suc more < 2 ^ 32)
+Fits p (machine.Section of counts more left q) = FitsAt (rank_of of) counts × (suc more < 2 ^ 32) × CanGo p (suc more) q
 Fits p (machine.Refused w) = Unit {0}
 
 -- a member begins
@@ -101,11 +140,12 @@ may_begin p more few section_kind.Global = can_begin p more few section_kind.Glo
 may_begin p more few section_kind.Export = can_begin p more few section_kind.Export
 may_begin p more few section_kind.Start = can_begin p more few section_kind.Start
 may_begin p more few section_kind.Element = can_begin p more few section_kind.Element
+may_begin p more few section_kind.DataCount = can_begin p more few section_kind.DataCount
 may_begin p more few section_kind.Code = can_begin p more few section_kind.Code
 may_begin p more few section_kind.Segment = can_begin p more few section_kind.Segment
 
 -- in a section
-framed_fits : (p : Profile) (of : SectionKind) (counts : Counts) (more left : ℕ) (q : InMember) → FitsAt (id_of of) counts → more < 2 ^ 32 → MayGo p more q → Fits p (machine_in_member of counts more left q)
+framed_fits : (p : Profile) (of : SectionKind) (counts : Counts) (more left : ℕ) (q : InMember) → FitsAt (rank_of of) counts → more < 2 ^ 32 → MayGo p more q → Fits p (machine_in_member of counts more left q)
 framed_fits p of counts more left (at.Failed w) f few go = tt
 framed_fits p of counts zero zero at.Over f few go = f
 framed_fits p of counts (suc n) zero at.Over f few go = tt
@@ -114,30 +154,37 @@ framed_fits p of counts (suc n) (suc l) at.Over f few go = (f, few, can_begin p 
 framed_fits p of counts zero left q f few go = tt
 framed_fits p of counts (suc n) left q f few go = (f, few, go)
 
-listed_fits : (p : Profile) (of : SectionKind) (counts : Counts) (more n : ℕ) → FitsAt (id_of of) counts → more < 2 ^ 32 → Fits p (machine_after_count of counts more n)
+listed_fits : (p : Profile) (of : SectionKind) (counts : Counts) (more n : ℕ) → FitsAt (rank_of of) counts → more < 2 ^ 32 → Fits p (machine_after_count of counts more n)
 listed_fits p of counts more zero f few = framed_fits p of counts more zero at.Over f few tt
 listed_fits p of counts more (suc n) f few = framed_fits p of counts more n (begin_component of) f few (may_begin p more few of)
 
 -- at the count of its members
-counted_fits : (p : Profile) (of : SectionKind) (counts : Counts) (more n : ℕ) → FitsIn (id_of of) counts → more < 2 ^ 32 → Fits p (machine_after_paired_count of counts more n)
-counted_fits p section_kind.Function counts more n f few = listed_fits p section_kind.Function (counts_in section_kind.Function counts n) more n (λ l. absurd (omega (arith, l)), λ l. absurd (omega (arith, l))) few
+counted_fits : (p : Profile) (of : SectionKind) (counts : Counts) (more n : ℕ) → FitsIn (rank_of of) counts → more < 2 ^ 32 → Fits p (machine_after_paired_count of counts more n)
+counted_fits p section_kind.Function counts more n f few =
+    listed_fits p section_kind.Function (counts_in section_kind.Function counts n) more n (λ l. absurd (omega (arith, l)), λ l. absurd (omega (arith, l)), λ l. f.2 (omega arith), λ l. absurd (omega (arith, l))) few
+counted_fits p section_kind.DataCount counts more n f few =
+    listed_fits p section_kind.DataCount (counts_in section_kind.DataCount counts n) more zero (λ l. absurd (omega (arith, l)), λ l. absurd (omega (arith, l)), λ l. absurd (omega (arith, l)), λ l. absurd (omega (arith, l))) few
 counted_fits p section_kind.Code counts more n f few =
-    cond_both (nat_eq n counts.functions) _ _ (λ (m : Machine). Fits p m) (λ _. listed_fits p section_kind.Code (counts_in section_kind.Code counts n) more n (λ l. refl, λ l. refl) few) (λ _. tt)
-counted_fits p of counts more n f few = listed_fits p of (counts_in of counts n) more n (λ l. f.0 (omega (arith, l)), λ l. f.1 (omega (arith, l))) few
+    cond_both (nat_eq n counts.functions) _ _ (λ (m : Machine). Fits p m)
+    (λ _. listed_fits p section_kind.Code (counts_in section_kind.Code counts n) more n (λ l. refl, λ l. refl, λ l. absurd (omega (arith, l)), λ l. absurd (omega (arith, l))) few) (λ _. tt)
+counted_fits p section_kind.Segment counts more n f few =
+    cond_both (is_given counts.segments n) _ _ (λ (m : Machine). Fits p m)
+    (λ _. listed_fits p section_kind.Segment (counts_in section_kind.Segment counts n) more n (λ l. absurd (omega (arith, l)), λ l. f.1 (omega arith), λ l. refl, λ l. refl) few) (λ _. tt)
+counted_fits p of counts more n f few = listed_fits p of (counts_in of counts n) more n (λ l. f.0 (omega (arith, l)), λ l. f.1 (omega (arith, l)), λ l. f.2 (omega (arith, l)), λ l. absurd (omega (arith, l))) few
 
-count_fits : (p : Profile) (of : SectionKind) (counts : Counts) (more : ℕ) (q : Step ℕ × Partial) → FitsIn (id_of of) counts → suc more < 2 ^ 32 → RoomAfter 32 q → Fits p (after_count of counts more q).0
+count_fits : (p : Profile) (of : SectionKind) (counts : Counts) (more : ℕ) (q : Step ℕ × Partial) → FitsIn (rank_of of) counts → suc more < 2 ^ 32 → RoomAfter 32 q → Fits p (after_count of counts more q).0
 count_fits p of counts zero (More, r) f few room = tt
 count_fits p of counts (suc n) (More, r) f few room = (room, f, omega (arith, few))
 count_fits p of counts more (Done n, r) f few room = counted_fits p of counts more n f (omega (arith, few))
 count_fits p of counts more (Bad, r) f few room = tt
 
 -- at its size
-after_size_fits : (p : Profile) (of : SectionKind) (counts : Counts) (n : ℕ) → FitsIn (id_of of) counts → n < 2 ^ 32 → Fits p (after_size of counts n)
+after_size_fits : (p : Profile) (of : SectionKind) (counts : Counts) (n : ℕ) → FitsIn (rank_of of) counts → n < 2 ^ 32 → Fits p (after_size of counts n)
 after_size_fits p of counts zero f few = tt
-after_size_fits p section_kind.Start counts (suc n) f few = ((λ l. absurd (omega (arith, l)), λ l. absurd (omega (arith, l))), few, can_begin p (suc n) few section_kind.Start)
+after_size_fits p section_kind.Start counts (suc n) f few = ((λ l. absurd (omega (arith, l)), λ l. absurd (omega (arith, l)), λ l. f.2 (omega arith), λ l. absurd (omega (arith, l))), few, can_begin p (suc n) few section_kind.Start)
 after_size_fits p of counts (suc n) f few = (fresh_32, f, few)
 
-size_fits : (p : Profile) (of : SectionKind) (counts : Counts) (q : Step ℕ × Partial) → FitsIn (id_of of) counts → RoomAfter 32 q → IfDone q.0 (λ n. n < 2 ^ 32)
+size_fits : (p : Profile) (of : SectionKind) (counts : Counts) (q : Step ℕ × Partial) → FitsIn (rank_of of) counts → RoomAfter 32 q → IfDone q.0 (λ n. n < 2 ^ 32)
     → Fits p (on_number q (λ s. machine.Size of counts s) (λ n. (after_size of counts n, event.Nothing)) machine.Refused).0
 size_fits p of counts (More, r) f room few = (room, f)
 size_fits p of counts (Done n, r) f room few = after_size_fits p of counts n f few
@@ -157,30 +204,28 @@ custom_size_fits p last counts (Done n, r) f room = custom_fits p last counts n 
 custom_size_fits p last counts (Bad, r) f room = tt
 
 -- between sections
-begun_fits : (p : Profile) (of : SectionKind) (last : ℕ) (counts : Counts) → last < id_of of → FitsAt last counts → Fits p (begun_section of counts).0
+begun_fits : (p : Profile) (of : SectionKind) (last : ℕ) (counts : Counts) → last < rank_of of → FitsAt last counts → Fits p (begun_section of counts).0
 begun_fits p section_kind.Segment last counts above f = at_last counts.functions refl
   where
     at_last : (n : ℕ) → counts.functions ≡ n → Fits p (begun_last n counts).0
-    at_last zero e = (fresh_32, (λ l. e, λ l. e))
+    at_last zero e = (fresh_32, (λ l. e, λ l. e, λ l. absurd (omega (arith, l))))
     at_last (suc n) e = tt
-begun_fits p of last counts above f = (fresh_32, (λ l. f.0 (omega (arith, above, l)), λ l. absurd (omega (arith, l))))
+begun_fits p of last counts above f = (fresh_32, (λ l. f.0 (omega (arith, above, l)), λ l. absurd (omega (arith, l)), λ l. f.2 (omega (arith, above, l))))
 
-rising_fits : (p : Profile) (last : ℕ) (counts : Counts) (id : ℕ) (q : Option SectionKind) → IsNamed id q → FitsAt last counts → Fits p (machine_if_rising last counts id q).0
-rising_fits p last counts id None named f = tt
-rising_fits p last counts id (Some of) named f =
-    cond_both (nat_le id last) _ _ (λ (q : Machine × Event). Fits p q.0) (λ _. tt)
-    (λ a. let above : last < id = leb-false id last a in begun_fits p of last counts (omega (arith, above, named)) f)
+rising_fits : (p : Profile) (last : ℕ) (counts : Counts) (q : Option SectionKind) → FitsAt last counts → Fits p (machine_if_rising last counts q).0
+rising_fits p last counts None f = tt
+rising_fits p last counts (Some of) f = cond_both (nat_le (rank_of of) last) _ _ (λ (q : Machine × Event). Fits p q.0) (λ _. tt) (λ a. begun_fits p of last counts (leb-false (rank_of of) last a) f)
 
-start_fits : (p : Profile) (last : ℕ) (counts : Counts) (c : ℕ) → FitsAt last counts → Fits p (section_start last counts c).0
+start_fits : (p : Profile) (last : ℕ) (counts : Counts) (c : ℕ) → FitsAt last counts → Fits p (section_start p last counts c).0
 start_fits p last counts zero f = (fresh_32, f)
-start_fits p last counts (suc m) f = rising_fits p last counts (suc m) (section_kind_of (suc m)) (component_named m) f
+start_fits p last counts (suc m) f = rising_fits p last counts (section_kind_of p (suc m)) f
 
 header_fits : (p : Profile) (n c : ℕ) → Fits p (header_step n c).0
 header_fits p n c =
     let P : Machine × Event → Type 0 = λ q. Fits p q.0 in
     cond_both (nat_lt n 8) _ _ P
     (λ _. cond_both (nat_eq c _) _ _ P
-    (λ _. cond_both (nat_lt n 7) _ _ P (λ a. omega (arith, ltb-true n 7 a)) (λ _. (λ l. refl, λ l. refl)))
+    (λ _. cond_both (nat_lt n 7) _ _ P (λ a. omega (arith, ltb-true n 7 a)) (λ _. (λ l. refl, λ l. refl, λ l. refl, λ l. refl)))
     (λ _. cond_both (nat_lt n 4) _ _ P (λ _. tt) (λ _. tt)))
     (λ _. tt)
 

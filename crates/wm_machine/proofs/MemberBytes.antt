@@ -1,5 +1,12 @@
 -- The possible rest of a member, and how each byte continues it.
 use Rattle.std.proofs.Common.{◌≡◌, ℕ, zero, suc, ◌<◌, ◌^◌, List, [], ◌∷◌, ◌++◌, Option, Some, None, length, refl, sym, ◌∙◌, ap, subst, arith, append-nil}
+use Rattle.wm_machine.specs.Items.{Marks}
+use Rattle.wm_machine.specs.exact.MemberSteps.{segment_begun, segment_unfinished}
+use Rattle.wm_syntax.specs.inner.Numbers.{Partial}
+use Rattle.std.proofs.lemmas.Bool.{leb-false, cond_both}
+use Rattle.std.proofs.Common.{Bool, true, false, nat_le}
+use Rattle.wm_syntax.specs.Profiles.{has}
+use Rattle.wm_syntax.specs.declared.profile.Feature.TheVariants.{BulkMemory}
 use Rattle.wm_syntax.specs.exact.Reading.{fresh}
 use Rattle.wm_syntax.specs.Types.{SpellsLimits, SpellsTableType}
 use Rattle.wm_syntax.specs.declared.profile.Profile.{Profile}
@@ -28,11 +35,11 @@ use Rattle.wm_machine.specs.declared.machine.member.InMember.{InMember}
 use Rattle.wm_machine.specs.declared.machine.member.InMember.TheVariants as at
 use Rattle.wm_machine.specs.declared.step.expressions.InExpression.{InExpression}
 use Rattle.wm_machine.specs.declared.step.expressions.InExpression.TheVariants as expression
-use Rattle.wm_machine.specs.Items.{Item, new_type, param, result_count, one_result, table as table_part, memory as memory_part, global as global_part, const_op, element_function, body, body_op, data_byte, Zone, outside, entry as in_entry, closing, Mark}
+use Rattle.wm_machine.specs.Items.{Item, new_type, param, result_count, one_result, table as table_part, memory as memory_part, global as global_part, const_op, start as start_part, element_function, body, body_op, data_byte, Zone, outside, entry as in_entry, closing, Mark}
 use Rattle.wm_machine.specs.MarkedForms.{MarkedForm, Empty, MarkedByte, Then, Times, Leaf, MarkedNumber, Vector, Index, Counted, Name, Sized, Entry, nothing_at, marks_ending, in_zone, outside_mark}
-use Rattle.wm_machine.specs.Grammar.{ValueType, ResultTypes, FunctionType, Desc, Global, Member, Target, Run, DataByte, Expression}
+use Rattle.wm_machine.specs.Grammar.{SegmentRest, segment_item, ValueType, ResultTypes, FunctionType, Desc, Global, Member, Target, Run, DataByte, Expression}
 use Rattle.wm_machine.specs.exact.Runs.{ByteRead, byte_read, name_item, plain_item, zone_in}
-use Rattle.wm_machine.specs.exact.Members.{id_of, member_at_start}
+use Rattle.wm_machine.specs.exact.Members.{rank_of, member_at_start}
 use Rattle.wm_machine.specs.exact.ValueSteps.{global_type_push, value_push}
 use Rattle.wm_machine.specs.exact.ExpressionSteps.{start, expression_step}
 use Rattle.wm_machine.specs.exact.MemberSteps.{after_param, after_result, after_name, functions_or_over, index_item, after_index, constant_over, after_constant, op_event, constant_step, data_or_over, list_or_over, entry_step, member_in_entry, member_of_entry, with_item_given, member_step}
@@ -47,6 +54,9 @@ use Rattle.wm_machine.proofs.EntryBytes.{OnlyParts, entry_parts, IsInEntry, CanO
 use Rattle.wm_machine.proofs.ExpressionSound.{sound_opens}
 use Rattle.wm_machine.proofs.MemberSound.{StandsEntry, CanEnter, MayEnter, entry_may, CanGo}
 use Rattle.wm_machine.proofs.MachineParts.{Follows, value_has, number_follows, leaf_follows, type_follows, byte_follows, length_follows, name_follows}
+use Rattle.wm_machine.specs.declared.machine.member.SegmentKind.{SegmentKind}
+use Rattle.wm_machine.specs.declared.machine.member.SegmentKind.TheVariants as segments
+use Rattle.wm_machine.specs.Grammar.{KindedList, SegmentForm}
 
 module _ (demanded : Type 0) where
   -- nothing after it
@@ -60,9 +70,10 @@ module _ (demanded : Type 0) where
   }
 
 module _ (demanded : Type 0) (p : Profile) where
-  -- one member of a section
+  -- One member of a section. The data count section has none, and what stands for one here is never asked for.
   abbrev pub OneOf : SectionKind → MarkedForm
-  OneOf of = Member demanded p (id_of of)
+  OneOf section_kind.DataCount = Index start_part
+  OneOf of = Member demanded p (rank_of of)
 
   abbrev Constant : MarkedForm
   Constant = Expression p const_op
@@ -81,7 +92,7 @@ module _ (demanded : Type 0) (p : Profile) where
   abbrev pub AfterIndex : IndexOf → MarkedForm
   AfterIndex index.Function = Empty
   AfterIndex index.Start = Empty
-  AfterIndex index.Element = Then Constant Functions
+  AfterIndex index.Element = Then Constant (KindedList segments.Element)
   AfterIndex (index.ElementFunction more) = Times more (Index element_function)
   AfterIndex index.Segment = Then Constant (Vector DataByte)
 
@@ -89,6 +100,7 @@ module _ (demanded : Type 0) (p : Profile) where
   abbrev pub AfterConstant : ConstantOf → MarkedForm
   AfterConstant constant.Global = Empty
   AfterConstant constant.Element = Functions
+  AfterConstant constant.IndexedElement = KindedList segments.Element
   AfterConstant constant.Segment = Vector DataByte
 
   -- what is counted after it
@@ -113,6 +125,8 @@ module _ (demanded : Type 0) (p : Profile) where
   ComponentRest (at.Name of more) y = Then (NameLeft demanded y (suc more) (name_item of)) (AfterName of)
   ComponentRest (at.Value v) y = Leaf (value_rest p v) plain_item
   ComponentRest (at.Index of r) y = Counted (Left r) (index_mark of) (λ n. AfterIndex of)
+  ComponentRest (at.SegmentStart of r) y = Counted (Left r) (segment_item (has p BulkMemory) of) (SegmentRest p (has p BulkMemory) of)
+  ComponentRest at.ElementKind y = KindedList segments.Element
   ComponentRest (at.GlobalType g) y = Then (Leaf (global_rest p g) global_part) Constant
   ComponentRest (at.Constant of e) y = Then (ExpressionRest p const_op e) (AfterConstant of)
   ComponentRest (at.Length of r) y = Counted (Left r) nothing_at (λ n. Times n (Listed of))
@@ -158,6 +172,7 @@ module _ (demanded : Type 0) (p : Profile) where
   over_same : (of : ConstantOf) → Same demanded (AfterConstant of) (ComponentRest (constant_over of) [])
   over_same constant.Global = same_refl demanded Empty
   over_same constant.Element = vector_fresh (Index element_function)
+  over_same constant.IndexedElement = same_refl demanded (KindedList segments.Element)
   over_same constant.Segment = vector_fresh DataByte
 
   after_constant_same : (of : ConstantOf) (e : InExpression) → Same demanded (Then (ExpressionRest p const_op e) (AfterConstant of)) (ComponentRest (after_constant of e) [])
@@ -172,7 +187,7 @@ module _ (demanded : Type 0) (p : Profile) where
   index_same : (of : IndexOf) → Same demanded (AfterIndex of) (ComponentRest (after_index of) [])
   index_same index.Function = same_refl demanded Empty
   index_same index.Start = same_refl demanded Empty
-  index_same index.Element = constant_begins constant.Element
+  index_same index.Element = constant_begins constant.IndexedElement
   index_same (index.ElementFunction more) = functions_same more
   index_same index.Segment = constant_begins constant.Segment
 
@@ -245,6 +260,57 @@ module _ (demanded : Type 0) (p : Profile) where
   index_alone : (of : IndexOf) (F : ℕ → MarkedForm) → ((n : ℕ) → Same demanded (F n) (AfterIndex of)) → Same demanded (MarkedNumber (index_mark of) F) (ComponentRest (at.Index of fresh) [])
   index_alone of F s = number_fresh demanded (index_mark of) F (λ n. AfterIndex of) s
 
+  -- the number at the front of a segment
+  no_flag : (of : SegmentKind) (n : ℕ) (b : List ℕ) (k : Marks) → 2 < n → SegmentRest p true of n b k → ⊥
+  no_flag of zero b k l h = omega (arith, l)
+  no_flag of (suc zero) b k l h = omega (arith, l)
+  no_flag of (suc (suc zero)) b k l h = omega (arith, l)
+  no_flag of (suc (suc (suc n))) b k l h = h
+
+  module _ (of : SegmentKind) where
+    abbrev FrontRest : Bool → Partial → MarkedForm
+    FrontRest flagged r = Counted (Left r) (segment_item flagged of) (SegmentRest p flagged of)
+
+    front_same : (flagged : Bool) → has p BulkMemory ≡ flagged → (r : Partial) → Same demanded (FrontRest flagged r) (ComponentRest (at.SegmentStart of r) [])
+    front_same flagged e r = subst (λ f. Same demanded (FrontRest f r) (ComponentRest (at.SegmentStart of r) [])) e (same_refl demanded (ComponentRest (at.SegmentStart of r) []))
+
+    large_never : (r : Partial) → 2 < r.low → Same demanded (FrontRest true r) Never
+    large_never r l = record { to = λ s b k h. let n = h.number in let is = n.2 in no_flag of h.n h.back h.back_marks (omega (arith, l, is)) h.rest; from = λ b k h. absurd h }
+
+    unfinished_same : (flagged : Bool) → has p BulkMemory ≡ flagged → (r : Partial) → Same demanded (FrontRest flagged r) (ComponentRest (segment_unfinished flagged of r) [])
+    unfinished_same false e r = front_same false e r
+    unfinished_same true e r =
+        cond_both (nat_le r.low 2) _ _ (λ (q : InMember). Same demanded (FrontRest true r) (ComponentRest q [])) (λ _. front_same true e r) (λ l. large_never r (leb-false r.low 2 l))
+
+  abbrev BegunRead : List ℕ → ℕ → Bool → SegmentKind → ℕ → ByteRead InMember
+  BegunRead y c flagged of n = byte_read at.Failed outside y c (segment_begun flagged of n)
+
+  begun_marked : (y : List ℕ) (c : ℕ) (flagged : Bool) (of : SegmentKind) (n : ℕ) → (BegunRead y c flagged of n).mark ≡ outside_mark (segment_item flagged of n)
+  begun_marked y c false segments.Element n = refl
+  begun_marked y c false segments.Data n = refl
+  begun_marked y c true segments.Element zero = refl
+  begun_marked y c true segments.Data zero = refl
+  begun_marked y c true segments.Element (suc zero) = refl
+  begun_marked y c true segments.Data (suc zero) = refl
+  begun_marked y c true of (suc (suc zero)) = refl
+  begun_marked y c true of (suc (suc (suc n))) = refl
+
+  begun_same : (y : List ℕ) (c : ℕ) (flagged : Bool) (of : SegmentKind) (n : ℕ) → Same demanded (SegmentRest p flagged of n) (ComponentRest (BegunRead y c flagged of n).at (BegunRead y c flagged of n).name)
+  begun_same y c false segments.Element n = constant_begins constant.Element
+  begun_same y c false segments.Data n = constant_begins constant.Segment
+  begun_same y c true segments.Element zero = constant_begins constant.Element
+  begun_same y c true segments.Data zero = constant_begins constant.Segment
+  begun_same y c true segments.Element (suc zero) = same_refl demanded (KindedList segments.Element)
+  begun_same y c true segments.Data (suc zero) = vector_fresh DataByte
+  begun_same y c true segments.Element (suc (suc zero)) = index_begins index.Element
+  begun_same y c true segments.Data (suc (suc zero)) = index_begins index.Segment
+  begun_same y c true of (suc (suc (suc n))) = same_refl demanded Never
+
+  segment_begins : (of : SegmentKind) → Same demanded (SegmentForm p of) (ComponentRest (at.SegmentStart of fresh) [])
+  segment_begins of =
+      let R : ℕ → MarkedForm = SegmentRest p (has p BulkMemory) of in
+      number_fresh demanded (segment_item (has p BulkMemory) of) R R (λ n. same_refl demanded (R n))
+
   pub begin_same : (of : SectionKind) → Same demanded (OneOf of) (ComponentRest (member_at_start of) [])
   begin_same section_kind.Type = same_refl demanded (FunctionType p)
   begin_same section_kind.Import = name_begins name.ImportModule
@@ -254,9 +320,10 @@ module _ (demanded : Type 0) (p : Profile) where
   begin_same section_kind.Global = same_refl demanded (Global p)
   begin_same section_kind.Export = name_begins name.Export
   begin_same section_kind.Start = index_alone index.Start (λ n. Empty) (λ n. same_refl demanded Empty)
-  begin_same section_kind.Element = index_begins index.Element
+  begin_same section_kind.Element = segment_begins segments.Element
+  begin_same section_kind.DataCount = index_alone index.Start (λ n. Empty) (λ n. same_refl demanded Empty)
   begin_same section_kind.Code = number_fresh demanded (λ n. Some body) InSize InSize (λ n. same_refl demanded (InSize n))
-  begin_same section_kind.Segment = index_begins index.Segment
+  begin_same section_kind.Segment = segment_begins segments.Data
 
   -- a byte of data
   data_next : (c : ℕ) → c < 2 ^ 8 → Next demanded DataByte c (outside_mark (Some (data_byte c))) Empty
@@ -415,6 +482,12 @@ module _ (demanded : Type 0) (p : Profile) where
   component_follows left (at.Index of r) y c go byte =
       number_follows demanded at.Failed ComponentRest (λ w. same_refl demanded Never) y c (index_mark of) (λ n. AfterIndex of) (λ s. at.Index of s) (λ n. with_item_given (after_index of) (index_item of n))
       (λ s. same_refl demanded (ComponentRest (at.Index of s) [])) (λ n. refl) (λ n. index_same of) r byte
+  component_follows left (at.SegmentStart of r) y c go byte =
+      let flagged : Bool = has p BulkMemory in
+      number_follows demanded at.Failed ComponentRest (λ w. same_refl demanded Never) y c (segment_item flagged of) (SegmentRest p flagged of) (segment_unfinished flagged of) (segment_begun flagged of)
+      (unfinished_same of flagged refl) (begun_marked y c flagged of) (begun_same y c flagged of) r byte
+  component_follows left at.ElementKind y c go byte =
+      byte_follows demanded at.Failed ComponentRest (λ w. same_refl demanded Never) y c 0x00 None Functions (at.Length length_of.Functions fresh, event.Nothing) refl (vector_fresh (Index element_function))
   component_follows left (at.GlobalType g) y c go byte =
       leaf_follows demanded at.Failed ComponentRest (λ w. same_refl demanded Never) y c (global_rest p) (global_type_push p) (global_reader p) global_part Constant at.GlobalType (λ t. with_item_given (at.Constant constant.Global start) (plain.Global t))
       (λ s. same_refl demanded (ComponentRest (at.GlobalType s) [])) (λ t. refl) (λ t. global_begins) g byte
@@ -440,6 +513,8 @@ module _ (demanded : Type 0) (p : Profile) where
   component_has left (at.Name of more) y go = then_has demanded (NameLeft demanded y (suc more) (name_item of)) (AfterName of) (left_has demanded y more (name_item of))
   component_has left (at.Value v) y go = leaf_has demanded (value_rest p) (value_push p) (value_reader p) plain_item v
   component_has left (at.Index of r) y go = counted_has demanded (index_mark of) (λ n. AfterIndex of) r
+  component_has left (at.SegmentStart of r) y go = counted_has demanded (segment_item (has p BulkMemory) of) (SegmentRest p (has p BulkMemory) of) r
+  component_has left at.ElementKind y go = then_has demanded (MarkedByte 0x00 None) Functions (byte_has demanded 0x00 None)
   component_has left (at.GlobalType g) y go = then_has demanded (Leaf (global_rest p g) global_part) Constant (leaf_has demanded (global_rest p) (global_type_push p) (global_reader p) global_part g)
   component_has left (at.Constant of e) y go = then_has demanded (ExpressionRest p const_op e) (AfterConstant of) (λ s k h. expression_has p const_op e go.1.0 k h)
   component_has left (at.Length of r) y go = counted_has demanded nothing_at (λ n. Times n (Listed of)) r

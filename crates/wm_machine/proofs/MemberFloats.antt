@@ -1,5 +1,8 @@
 -- Within a member, the name Float is given only for a byte of floats, and Memory never.
 use Rattle.std.proofs.Common.{◌≡◌, ◌⊎◌, ℕ, zero, suc, Bool, true, false, Some, ap, subst, inl, inr, nat_eq, Result, Ok, Err}
+use Rattle.wm_syntax.specs.declared.profile.Feature.TheVariants.{BulkMemory}
+use Rattle.wm_machine.proofs.SegmentStarts.{unfinished_any, begun_state}
+use Rattle.wm_machine.specs.exact.MemberSteps.{segment_begun, segment_unfinished}
 use Rattle.std.proofs.lemmas.Bool.{cond_both, eqb-true}
 use Rattle.wm_syntax.specs.declared.numbers.Step.{Step}
 use Rattle.wm_syntax.specs.declared.numbers.Step.TheVariants as step
@@ -286,6 +289,7 @@ module _ (refusal : Why) (Fault : ℕ → Type 0) (other : (w : Why) → IsOther
   over_float : (of : ConstantOf) → Fails (constant_over of)
   over_float constant.Global e = cc
   over_float constant.Element e = cc
+  over_float constant.IndexedElement e = cc
   over_float constant.Segment e = cc
 
   constant_float : (of : ConstantOf) (e : InExpression) → (e ≡ expression.Failed refusal → Fault c) → Fails (after_constant of e)
@@ -325,6 +329,10 @@ module _ (refusal : Why) (Fault : ℕ → Type 0) (other : (w : Why) → IsOther
   component_fault p (at.Name of more) i j = name_step_float of more
   component_fault p (at.Value v) i j = on_value_any Fails (value_push p v c) at.Value (λ q. with_item_given at.Over q) at.Failed (value_reads p v) (λ s e. cc) (λ x e. cc) fails_by
   component_fault p (at.Index of r) i j = on_number_any Fails (unsigned_push 32 r c) (λ s. at.Index of s) (λ n. with_item_given (after_index of) (index_item of n)) at.Failed (λ s e. cc) (λ n. index_float of) (no_place why.BadNumber tt)
+  component_fault p (at.SegmentStart of r) i j =
+      on_number_any Fails (unsigned_push 32 r c) (segment_unfinished (has p BulkMemory) of) (segment_begun (has p BulkMemory) of) at.Failed (λ s. unfinished_any Fails (has p BulkMemory) of s (λ e. cc) (no_place why.BadNumber tt))
+      (begun_state Fails (λ e. cc) (λ e. cc) (λ e. cc) (λ e. cc) (λ e. cc) (λ e. cc) (no_place why.BadNumber tt) (has p BulkMemory) of) (no_place why.BadNumber tt)
+  component_fault p at.ElementKind i j = cond_both (nat_eq c 0x00) _ _ (λ (x : InMember × Event). Fails x.0) (λ _ e. cc) (λ _. no_place why.BadByte tt)
   component_fault p (at.GlobalType g) i j = on_value_any Fails (global_type_push p g c) at.GlobalType (λ t. with_item_given (at.Constant constant.Global start) (plain.Global t)) at.Failed (global_reads p g) (λ s e. cc) (λ x e. cc) fails_by
   component_fault p (at.Constant of e) i j = constant_float of (expression_step p e c).0 (expression_fault refusal Fault other float p e c i)
   component_fault p (at.Length of r) i j = on_number_any Fails (unsigned_push 32 r c) (λ s. at.Length of s) (λ n. (list_or_over of n, event.Nothing)) at.Failed (λ s e. cc) (list_float of) (no_place why.BadNumber tt)

@@ -1,5 +1,13 @@
 -- The possible states in a member: their numbers can still be completed, and their open blocks counted.
 use Rattle.std.proofs.Common.{ℕ, zero, suc, ◌<◌, ◌^◌, Bool, true, false, Some, arith, nat_eq, Result, Ok, Err}
+use Rattle.std.proofs.Common.{refl}
+use Rattle.wm_machine.proofs.TableIndex.{not_both}
+use Rattle.std.proofs.lemmas.Bool.{leb-true}
+use Rattle.std.proofs.Common.{◌≡◌, ◌≤◌, IsTrue, nat_le}
+use Rattle.wm_syntax.specs.Profiles.{has}
+use Rattle.wm_syntax.specs.declared.profile.Feature.TheVariants.{BulkMemory}
+use Rattle.wm_machine.proofs.SegmentStarts.{begun_state}
+use Rattle.wm_machine.specs.exact.MemberSteps.{segment_begun, segment_unfinished}
 use Rattle.std.proofs.lemmas.Bool.{cond_both}
 use Rattle.wm_syntax.specs.declared.numbers.Step.{Step}
 use Rattle.wm_syntax.specs.declared.numbers.Step.TheVariants as step
@@ -52,6 +60,7 @@ use Rattle.wm_machine.specs.exact.MemberSteps.{on_number, on_value, on_type, wit
 use Rattle.wm_machine.proofs.OpSound.{HasRoom, RoomAfter, fresh_32, unsigned_room}
 use Rattle.wm_machine.proofs.ExpressionRest.{IsInside}
 use Rattle.wm_machine.proofs.ExpressionSound.{SoundExpression, FineExpression, start_sound, expression_sound}
+use Rattle.wm_machine.specs.declared.machine.member.SegmentKind.{SegmentKind}
 
 -- the same of an answer of a reader
 abbrev Fine : {R X : Type 0} → (R → Type 0) → Reading R X → Type 0
@@ -184,6 +193,7 @@ Stands p left (at.ResultCount r) = HasRoom 32 r
 Stands p left (at.NameLength of r) = HasRoom 32 r
 Stands p left (at.Value v) = SoundValue v
 Stands p left (at.Index of r) = HasRoom 32 r
+Stands p left (at.SegmentStart of r) = HasRoom 32 r × (IsTrue (has p BulkMemory) → r.low ≤ 2)
 Stands p left (at.Constant of e) = IsInside e × SoundExpression p left e
 Stands p left (at.Length of r) = HasRoom 32 r
 Stands p left (at.EntrySize r) = HasRoom 32 r
@@ -248,9 +258,10 @@ module _ (p : Profile) (left : ℕ) (few : left < 2 ^ 32) where
   begin_may section_kind.Global = (few, tt)
   begin_may section_kind.Export = (few, fresh_32)
   begin_may section_kind.Start = (few, fresh_32)
-  begin_may section_kind.Element = (few, fresh_32)
+  begin_may section_kind.Element = (few, (fresh_32, λ y. omega arith))
+  begin_may section_kind.DataCount = (few, fresh_32)
   begin_may section_kind.Code = (few, fresh_32)
-  begin_may section_kind.Segment = (few, fresh_32)
+  begin_may section_kind.Segment = (few, (fresh_32, λ y. omega arith))
 
   param_may : (n : ℕ) → MayGo p left (after_param n)
   param_may zero = (few, fresh_32)
@@ -296,6 +307,7 @@ module _ (p : Profile) (left : ℕ) (few : left < 2 ^ 32) where
   over_may : (of : ConstantOf) → MayGo p left (constant_over of)
   over_may constant.Global = tt
   over_may constant.Element = (few, fresh_32)
+  over_may constant.IndexedElement = (few, tt)
   over_may constant.Segment = (few, fresh_32)
 
   constant_may : (of : ConstantOf) (e : InExpression) → FineExpression p left e → MayGo p left (after_constant of e)
@@ -303,6 +315,14 @@ module _ (p : Profile) (left : ℕ) (few : left < 2 ^ 32) where
   constant_may of (expression.Failed w) h = tt
   constant_may of (expression.Op depth q) h = (few, (tt, h))
   constant_may of (expression.Label depth n r) h = (few, (tt, h))
+
+  -- the number at the front of a segment
+  unfinished_may : (flagged : Bool) → has p BulkMemory ≡ flagged → (of : SegmentKind) (s : Partial) → HasRoom 32 s → MayGo p left (segment_unfinished flagged of s)
+  unfinished_may false e of s g = (few, (g, λ y. absurd (not_both (has p BulkMemory) y e)))
+  unfinished_may true e of s g = cond_both (nat_le s.low 2) _ _ (MayGo p left) (λ l. (few, (g, λ y. leb-true s.low 2 l))) (λ _. tt)
+
+  begun_may : (flagged : Bool) (of : SegmentKind) (n : ℕ) → MayGo p left (segment_begun flagged of n).0
+  begun_may = begun_state (MayGo p left) (few, (tt, start_sound p left few)) (few, tt) (few, fresh_32) (few, (tt, start_sound p left few)) (few, fresh_32) (few, fresh_32) tt
 
   framed_may : (n : ℕ) (q : InEntry) → MayEnter p n q → MayGo p left (member_in_entry n q)
   framed_may n (entry.Failed w) h = tt
@@ -325,6 +345,10 @@ module _ (p : Profile) (left : ℕ) (few : left < 2 ^ 32) where
   step_may (at.Name of more) c byte h = name_step_may of more
   step_may (at.Value v) c byte h = value_may (MayGo p left) SoundValue (value_push p v c) at.Value (λ q. with_item_given at.Over q) at.Failed (value_fine p v c byte h) (λ s g. (few, g)) (λ x. tt) (λ w. tt)
   step_may (at.Index of r) c byte h = number_may (MayGo p left) r c (λ s. at.Index of s) (λ n. with_item_given (after_index of) (index_item of n)) at.Failed h byte (λ s g. (few, g)) (λ n l. index_may of) tt
+  step_may (at.SegmentStart of r) c byte h =
+      let flagged : Bool = has p BulkMemory in
+      number_may (MayGo p left) r c (segment_unfinished flagged of) (segment_begun flagged of) at.Failed h.0 byte (unfinished_may flagged refl of) (λ n l. begun_may flagged of n) tt
+  step_may at.ElementKind c byte h = cond_both (nat_eq c 0x00) _ _ (λ (x : InMember × Event). MayGo p left x.0) (λ _. (few, fresh_32)) (λ _. tt)
   step_may (at.GlobalType g) c byte h = value_may (MayGo p left) AnyGlobal (global_type_push p g c) at.GlobalType (λ t. with_item_given (at.Constant constant.Global start) (plain.Global t)) at.Failed (any_fine (global_type_push p g c)) (λ s i. (few, tt)) (λ x. (few, (tt, start_sound p left few))) (λ w. tt)
   step_may (at.Constant of e) c byte h = constant_may of (expression_step p e c).0 (expression_sound p left e c byte h.1)
   step_may (at.Length of r) c byte h = number_may (MayGo p left) r c (λ s. at.Length of s) (λ n. (list_or_over of n, event.Nothing)) at.Failed h byte (λ s g. (few, g)) (λ n l. list_may of n) tt

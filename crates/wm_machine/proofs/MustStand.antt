@@ -18,7 +18,7 @@ use Rattle.wm_syntax.specs.declared.modules.ImportDesc.{ImportDesc}
 use Rattle.wm_syntax.specs.declared.modules.ImportDesc.TheVariants as desc
 use Rattle.wm_syntax.specs.declared.modules.ExportKind.{ExportKind}
 use Rattle.wm_syntax.specs.declared.modules.ExportKind.TheVariants as kind
-use Rattle.wm_machine.specs.declared.step.ops.BlockOp.{BlockOp}
+use Rattle.wm_syntax.specs.declared.instructions.op_class.BlockOp.{BlockOp}
 use Rattle.wm_machine.specs.declared.step.ops.InOp.{InOp}
 use Rattle.wm_machine.specs.declared.step.ops.InOp.TheVariants as at
 use Rattle.wm_machine.specs.declared.step.expressions.InExpression.TheVariants as expression
@@ -28,24 +28,27 @@ use Rattle.wm_machine.specs.declared.step.values.InGlobalType.TheVariants as glo
 use Rattle.wm_machine.specs.declared.step.values.InImportDesc.TheVariants as import
 use Rattle.wm_machine.specs.declared.step.values.InExportDesc.TheVariants as target
 use Rattle.wm_machine.specs.declared.step.values.InRun.TheVariants as run
-use Rattle.wm_machine.specs.exact.OpSteps.{block_op, call_op, code_step, memory_op}
+use Rattle.wm_machine.specs.exact.OpSteps.{code_step}
+use Rattle.wm_syntax.specs.exact.OpShapes.{block_op, memory_op}
 use Rattle.wm_machine.specs.Items.{Item, Marks}
 use Rattle.wm_machine.specs.MarkedForms.{MarkedForm, MarkedByte, Then, Leaf, Sized, Filled, Entry, entry_marks, marks_ending, outside_mark}
 use Rattle.wm_machine.specs.Sections.{Those, SpellsDesc, kind_byte}
 use Rattle.wm_machine.specs.Grammar.{loose, strict}
-use Rattle.wm_machine.specs.Meanings.{AnInstruction, spelled, a_code, an_instruction, a_value_type, a_block_type, a_function_type, an_element_type, a_flag, a_kind, a_zero}
+use Rattle.wm_machine.specs.Meanings.{AnInstruction, spelled, a_code, an_instruction, a_value_type, a_block_type, an_element_type, a_flag, a_kind, a_zero}
 use Rattle.wm_machine.proofs.OpBytes.{coded_named, has_first}
 use Rattle.wm_machine.proofs.OpRest.{Closed, Copied, behind_first, code_law, first_parts, long_first, op_rest, padding_law, rest_named}
 use Rattle.wm_machine.proofs.OpSound.{SoundOp, some_op}
 use Rattle.wm_machine.specs.exact.Readings.{Goes}
-use Rattle.wm_machine.specs.declared.step.ops.MemoryOp.TheVariants as memory
+use Rattle.wm_syntax.specs.declared.instructions.op_class.MemoryOp.TheVariants as memory
 use Rattle.wm_machine.proofs.ValueBytes.{limits_rest, table_rest, global_rest, desc_rest, target_rest, run_rest}
 use Rattle.wm_machine.proofs.ExpressionRest.{ExpressionRest}
 use Rattle.wm_machine.proofs.ExpressionSound.{some_after}
 use Rattle.wm_machine.proofs.OpenMembers.{Comes, zero_u32, zero_limits, zeros, zeros_length, zeros_bytes}
 use Rattle.std.specs.Prelude.{IsFalse}
-use Rattle.wm_syntax.specs.declared.profile.Feature.TheVariants.{LongIndex}
 use Rattle.wm_machine.proofs.TableIndex.{TableRest, not_both}
+use Rattle.wm_machine.specs.declared.step.ops.TableOp.{TableOp}
+use Rattle.wm_machine.specs.exact.OpSteps.{table_feature}
+use Rattle.wm_machine.proofs.OpRest.{table_op, after_comes}
 
 -- of values: each such thing has one that goes on from it
 abbrev pub ValuesCan : {X : Type 0} → Form ℕ → (X → Form ℕ) → Type 0
@@ -184,7 +187,7 @@ module _ (p : Profile) where
       (let i = some_op p at.Code sound in (i.1, to_code i.0 i.1 i.2))
 
   module _ (n : ℕ) (sound : IsClassOfOp (class_under p (0x100 + n))) (o : Op) (b : List ℕ) where
-    few : n < 12
+    few : n < 15
     few = let i = begins_under p (0x100 + n) sound in behind_small p n i.0 i.1 i.2
 
     run_80 : (k left : ℕ) → op_rest p (at.Padding n (k + left)) o (eighties k ++ b) → op_rest p (at.Padding n left) o b
@@ -223,7 +226,7 @@ module _ (p : Profile) where
   pub copied_begins : ValuesBegin (spelled p a_zero) Copied
   copied_begins = record {
     some = (0 ∷ [], refl);
-    can = λ b w. (0 ∷ [], memory_op memory.Copy, (refl, (b, 0 ∷ [], refl, w, refl)));
+    can = λ b w. (0 ∷ [], memory_op memory.MemoryCopy, (refl, (b, 0 ∷ [], refl, w, refl)));
     must = λ o b h. (h.1.0, h.1.1, h.1.2, h.1.3);
   }
 
@@ -234,12 +237,16 @@ module _ (p : Profile) where
   closed_begins o = whole (spelled p a_zero) (Closed o) (λ b w. (o, (refl, w))) (λ x b h. h.1) (0 ∷ [], refl)
 
   -- the byte 00 alone, under a profile without long indices
-  pub table_index_begins : IsFalse (has p LongIndex) → (n left : ℕ) → ValuesBegin (spelled p a_zero) (op_rest p (at.CallTable n left))
-  table_index_begins k n left = whole (spelled p a_zero) (op_rest p (at.CallTable n left)) (λ b w. (call_op n, (refl, inl w))) (λ o b h. only b h.1) (0 ∷ [], refl)
+  pub table_index_begins : (t : TableOp) → IsFalse (has p (table_feature t)) → (left : ℕ) → ValuesBegin (spelled p a_zero) (op_rest p (at.Table t left))
+  table_index_begins t k left = record {
+    some = (0 ∷ [], refl);
+    can = λ b w. let g = after_comes p t in (g.0, table_op t, (refl, (b, g.0, refl, inl w, g.1)));
+    must = λ o b h. (h.1.0, h.1.1, h.1.2, only h.1.0 h.1.3);
+  }
     where
-      only : (b : List ℕ) → TableRest p left b → OneByte 0x00 b
+      only : (b : List ℕ) → TableRest p (table_feature t) left b → OneByte 0x00 b
       only b (inl e) = e
-      only b (inr h) = absurd (not_both (has p LongIndex) h.0 k)
+      only b (inr h) = absurd (not_both (has p (table_feature t)) h.0 k)
 
   -- values
   pub type_begins : ValuesBegin (spelled p a_value_type) (Those (HasType p) SpellsValType)
@@ -306,9 +313,9 @@ module _ (p : Profile) where
   pub run_begins : (n : ℕ) → ValuesBegin (spelled p a_value_type) (run_rest p (run.Type n))
   run_begins n = whole (spelled p a_value_type) (run_rest p (run.Type n)) (λ b w. ((n, w.0), (refl, w.1.0, w.1.1))) (λ x b h. (x.1, (h.1, h.2))) (0x7F ∷ [], (I32, (refl, refl)))
 
-  -- what begins a function type
-  pub form_begins : (x : Option Item) → PartsBegin (spelled p a_function_type) (MarkedByte 0x60 x) (MarkedByte 0x60 x)
-  form_begins x = record {
+  -- a byte that is required
+  pub byte_begins : (d : ℕ) (x : Option Item) → PartsBegin (OneByte d) (MarkedByte d x) (MarkedByte d x)
+  byte_begins d x = record {
     can = λ b e. ([], outside_mark x ∷ [], (append-nil b ∙ e, refl));
     must = λ b k h. (b, [], sym (append-nil b), h.0);
   }

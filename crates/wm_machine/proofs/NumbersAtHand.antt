@@ -1,11 +1,14 @@
 -- The number that is being read in a state; each rest of it can follow there.
 use Rattle.std.proofs.Common.{ℕ, suc, Bool, true, false, inl, inr, List, [], ◌∷◌, ◌++◌, Option, Some, None, ℤ, refl, sym, subst, arith, append-nil}
+use Rattle.wm_machine.proofs.OpenMembers.{small_comes}
+use Rattle.wm_machine.specs.Grammar.{SegmentRest, segment_item}
+use Rattle.std.proofs.Common.{◌≤◌}
+use Rattle.wm_syntax.specs.declared.profile.Feature.TheVariants.{BulkMemory}
 use Rattle.wm_syntax.specs.declared.profile.Profile.{Profile}
 use Rattle.wm_syntax.specs.inner.Numbers.{Partial, UnsignedRest, SignedRest}
 use Rattle.wm_syntax.specs.exact.Reading.{fresh}
 use Rattle.wm_syntax.specs.Spelling.{Form}
 use Rattle.wm_syntax.specs.Profiles.{has}
-use Rattle.wm_syntax.specs.declared.profile.Feature.TheVariants.{LongIndex}
 use Rattle.wm_syntax.specs.declared.types.ValType.TheVariants.{I32}
 use Rattle.wm_syntax.specs.declared.instructions.Op.{Op}
 use Rattle.wm_syntax.specs.declared.modules.ImportDesc.TheVariants as desc
@@ -38,11 +41,12 @@ use Rattle.wm_machine.specs.declared.machine.member.InMember.{InMember}
 use Rattle.wm_machine.specs.declared.machine.member.InMember.TheVariants as at
 use Rattle.wm_machine.specs.Items.{Item, param, result_count, one_result, body, body_op, const_op}
 use Rattle.wm_machine.specs.MarkedForms.{MarkedForm, Then, Times, Leaf, Counted, Name, Sized, Filled, Entry, nothing_at, marks_ending, name_marks}
-use Rattle.wm_machine.specs.Grammar.{Run, Expression, ValueType, ResultTypes, loose}
-use Rattle.wm_machine.specs.exact.Members.{id_of}
-use Rattle.wm_machine.specs.exact.OpSteps.{index_op, call_op, const_32_op, const_64_op}
+use Rattle.wm_machine.specs.Grammar.{ModuleCounts, Run, Expression, ValueType, ResultTypes, loose}
+use Rattle.wm_machine.specs.exact.Members.{rank_of}
+use Rattle.wm_machine.specs.exact.OpSteps.{call_op, init_op, const_32_op, const_64_op}
+use Rattle.wm_syntax.specs.exact.OpShapes.{index_op}
 use Rattle.wm_machine.specs.exact.Runs.{name_item, plain_item}
-use Rattle.wm_machine.specs.Meanings.{Integer, u32, u32_zero, s32, s64}
+use Rattle.wm_machine.specs.Meanings.{Integer, u32, u32_zero, u32_flag, s32, s64}
 use Rattle.wm_machine.proofs.Numbers.{Left}
 use Rattle.wm_machine.proofs.OpSound.{last_byte}
 use Rattle.wm_machine.proofs.OpRest.{op_rest, at_offset}
@@ -55,11 +59,15 @@ use Rattle.wm_machine.proofs.EntryBytes.{EntryRest, run_part}
 use Rattle.wm_machine.proofs.MemberBytes.{OneOf, index_mark, AfterName, AfterIndex, AfterConstant, Listed, InSize, ComponentRest}
 use Rattle.wm_machine.proofs.LaterNumbers.{ForSome}
 use Rattle.wm_machine.proofs.OpenMembers.{Comes, some_then, some_times, some_filled, some_name, some_type, some_runs, some_size, some_listed, some_one, after_params, after_index, after_constant, after_name, zeros, zeros_length}
-use Rattle.wm_machine.proofs.WholeMachine.{KnownIn, Later, After, InSize as InSectionSize, Listed as ListedMembers, ListOf, Within, MachineRest}
+use Rattle.wm_machine.proofs.WholeMachine.{count_item, freely, KnownIn, Later, After, InSize as InSectionSize, Listed as ListedMembers, ListOf, Within, MachineRest}
 use Rattle.wm_machine.proofs.Fronts.{some_later, some_after, some_size as some_section_size, some_listed as some_listed_members}
 use Rattle.wm_machine.proofs.MustStand.{ValuesCan, PartsCan, within_can, leaf_can, then_can, sized_can, entry_can, filled_can, led_can}
 use Rattle.std.specs.Prelude.{if◌then◌else◌}
 use Rattle.wm_machine.proofs.TableIndex.{Zeros, bool_cases}
+use Rattle.wm_machine.specs.declared.step.ops.TableOp.{TableOp}
+use Rattle.wm_machine.specs.exact.OpSteps.{init_table_op, table_feature}
+use Rattle.wm_machine.proofs.OpRest.{table_op, after_comes}
+use Rattle.wm_machine.specs.declared.machine.member.SegmentKind.{SegmentKind}
 
 -- The number that a state is in, and what was read of it. Of a table index it is how many bytes may still come before
 -- the last.
@@ -72,7 +80,9 @@ Num = Option (Integer × Partial)
 abbrev pub num_op : Profile → InOp → Num
 num_op p (in_op.Index i r) = Some (u32, r)
 num_op p (in_op.CallType r) = Some (u32, r)
-num_op p (in_op.CallTable n left) = if has p LongIndex then Some (u32_zero, at_zeros left) else None
+num_op p (in_op.Table t left) = if has p (table_feature t) then Some (u32_zero (table_feature t), at_zeros left) else None
+num_op p (in_op.InitElement r) = Some (u32, r)
+num_op p (in_op.InitSegment r) = Some (u32, r)
 num_op p (in_op.Const32 r) = Some (s32, r)
 num_op p (in_op.Const64 r) = Some (s64, r)
 num_op p (in_op.Align a r) = Some (u32, r)
@@ -123,12 +133,18 @@ num_entry p (entry.Run more r) = num_run r
 num_entry p (entry.Body e) = num_expression p e
 num_entry p q = None
 
+-- the number at the front of a segment
+abbrev pub front_number : (flagged : Bool) → Integer
+front_number false = u32
+front_number true = u32_flag
+
 abbrev pub num_member : Profile → InMember → Num
 num_member p (at.ParamCount r) = Some (u32, r)
 num_member p (at.ResultCount r) = Some (u32, r)
 num_member p (at.NameLength of r) = Some (u32, r)
 num_member p (at.Value v) = num_value v
 num_member p (at.Index of r) = Some (u32, r)
+num_member p (at.SegmentStart of r) = Some (front_number (has p BulkMemory), r)
 num_member p (at.Constant of e) = num_expression p e
 num_member p (at.Length of r) = Some (u32, r)
 num_member p (at.EntrySize r) = Some (u32, r)
@@ -149,7 +165,8 @@ num_machine p m = None
 
 abbrev pub RestOf : Integer → Partial → Form ℕ
 RestOf u32 r b = (n : ℕ) × UnsignedRest 32 r n b
-RestOf u32_zero r b = Zeros r.low b
+RestOf (u32_zero feature) r b = Zeros r.low b
+RestOf u32_flag r b = (n : ℕ) × (n ≤ 2) × UnsignedRest 32 r n b
 RestOf s32 r b = (z : ℤ) × SignedRest 32 r z b
 RestOf s64 r b = (z : ℤ) × SignedRest 64 r z b
 
@@ -186,7 +203,7 @@ text_can r x b w =
 counted_can : (r : Partial) (x : ℕ → Option Item) (F : ℕ → MarkedForm) → ((n : ℕ) → Comes (F n)) → PartsCan (RestOf u32 r) (Counted (Left r) x F)
 counted_can r x F f b w = let g = f w.0 in (g.bytes, marks_ending (x w.0) b ++ g.marks, record { n = w.0; front = b; back = g.bytes; back_marks = g.marks; bytes = refl; marks = refl; number = w.1; rest = g.spelled })
 
-for_can : (W : Form ℕ) (C : ℕ → Type 0) (P : ℕ → MarkedForm) (f : ℕ) → C f → PartsCan W (P f) → PartsCan W (ForSome C P)
+for_can : (W : Form ℕ) (C : ModuleCounts → Type 0) (P : ModuleCounts → MarkedForm) (f : ModuleCounts) → C f → PartsCan W (P f) → PartsCan W (ForSome C P)
 for_can W C P f c v b w = let h = v b w in (h.0, h.1, (f, c, h.2))
 
 module _ (p : Profile) where
@@ -208,27 +225,31 @@ module _ (p : Profile) where
   value_can (value.Export t) b w = within_can (Rests (num_target t)) (target_rest t) (λ x. plain.Export x.0 x.1) (target_can t) b w
 
   -- ops
-  table_index_can : (n left : ℕ) → ValuesCan (Rests (num_op p (in_op.CallTable n left))) (op_rest p (in_op.CallTable n left))
-  table_index_can n left b w = elim (bool_cases (has p LongIndex)) [
+  table_index_can : (t : TableOp) (left : ℕ) → ValuesCan (Rests (num_op p (in_op.Table t left))) (op_rest p (in_op.Table t left))
+  table_index_can t left b w = elim (bool_cases (has p (table_feature t))) [
     | inl y ↦
-        let z : Zeros left b = subst (λ (q : Bool). Rests (if q then Some (u32_zero, at_zeros left) else None) b) y w in
-        ([], call_op n, (refl, inr (y, subst (Zeros left) (sym (append-nil b)) z)))
-    | inr k ↦ absurd (subst (λ (q : Bool). Rests (if q then Some (u32_zero, at_zeros left) else None) b) k w)
+        let z : Zeros left b = subst (λ (q : Bool). Rests (if q then Some (u32_zero (table_feature t), at_zeros left) else None) b) y w in
+        let g = after_comes p t in
+        (g.0, table_op t, (refl, (b, g.0, refl, inr (y, z), g.1)))
+    | inr k ↦ absurd (subst (λ (q : Bool). Rests (if q then Some (u32_zero (table_feature t), at_zeros left) else None) b) k w)
   ]
 
   op_can : (q : InOp) → ValuesCan (Rests (num_op p q)) (op_rest p q)
   op_can (in_op.Index i r) b w = ([], index_op i w.0, (w.0, refl, ends_here (Left r) w.0 b w.1))
-  op_can (in_op.CallType r) b w = (0x00 ∷ [], call_op w.0, (w.0, b, 0x00 ∷ [], refl, w.1, (refl, inl refl)))
+  op_can (in_op.CallType r) b w = (0x00 ∷ [], call_op w.0, (w.0, b, 0x00 ∷ [], refl, w.1, (refl, (0x00 ∷ [], [], refl, inl refl, refl))))
+  op_can (in_op.InitElement r) b w = (0x00 ∷ [], init_table_op w.0, (w.0, b, 0x00 ∷ [], refl, w.1, (refl, (0x00 ∷ [], [], refl, inl refl, refl))))
   op_can (in_op.Const32 r) b w = ([], const_32_op w.0, (w.0, refl, ends_here (SignedRest 32 r) w.0 b w.1))
   op_can (in_op.Const64 r) b w = ([], const_64_op w.0, (w.0, refl, ends_here (SignedRest 64 r) w.0 b w.1))
   op_can (in_op.Align a r) b w = (0 ∷ [], at_offset a w.0 0, (w.0, b, 0 ∷ [], refl, w.1, (0, refl, last_byte fresh (omega arith))))
   op_can (in_op.Offset a n r) b w = ([], at_offset a n w.0, (w.0, refl, ends_here (Left r) w.0 b w.1))
+  op_can (in_op.InitSegment r) b w = (0x00 ∷ [], init_op w.0, (w.0, b, 0x00 ∷ [], refl, w.1, (refl, refl)))
+  op_can (in_op.InitMemory n) b w = absurd w
   op_can in_op.First b w = absurd w
   op_can in_op.Code b w = absurd w
   op_can (in_op.Padding n left) b w = absurd w
   op_can in_op.FirstZero b w = absurd w
   op_can (in_op.BlockType i) b w = absurd w
-  op_can (in_op.CallTable n left) b w = table_index_can n left b w
+  op_can (in_op.Table t left) b w = table_index_can t left b w
   op_can (in_op.Memory m) b w = absurd w
   op_can (in_op.Float32 left low) b w = absurd w
   op_can (in_op.Float64 left low) b w = absurd w
@@ -252,6 +273,12 @@ module _ (p : Profile) where
   in_entry_can entry.Over b w = absurd w
   in_entry_can (entry.Failed v) b w = absurd w
 
+  -- the number at the front of a segment
+  front_can : (flagged : Bool) (of : SegmentKind) (r : Partial) → PartsCan (RestOf (front_number flagged) r) (Counted (Left r) (segment_item flagged of) (SegmentRest p flagged of))
+  front_can false of r b w = counted_can r (segment_item false of) (SegmentRest p false of) (λ n. small_comes p false of n (λ y. cc)) b w
+  front_can true of r b w = let g = small_comes p true of w.0 (λ y. w.1) in
+      (g.bytes, marks_ending (segment_item true of w.0) b ++ g.marks, record { n = w.0; front = b; back = g.bytes; back_marks = g.marks; bytes = refl; marks = refl; number = w.2; rest = g.spelled })
+
   -- members
   member_can : (q : InMember) (y : List ℕ) → PartsCan (Rests (num_member p q)) (ComponentRest loose p q y)
   member_can (at.ParamCount r) y b w = counted_can r nothing_at (λ n. Then (Times n (ValueType p param)) (ResultTypes p)) (after_params p) b w
@@ -259,6 +286,8 @@ module _ (p : Profile) where
   member_can (at.NameLength of r) y b w = then_can (RestOf u32 r) (TextLeft loose r (name_item of)) (AfterName loose p of) (text_can r (name_item of)) (after_name p of) b w
   member_can (at.Value v) y b w = leaf_can (Rests (num_value v)) (value_rest p v) plain_item (value_can v) b w
   member_can (at.Index of r) y b w = counted_can r (index_mark loose p of) (λ n. AfterIndex loose p of) (λ n. after_index p of) b w
+  member_can (at.SegmentStart of r) y b w = front_can (has p BulkMemory) of r b w
+  member_can at.ElementKind y b w = absurd w
   member_can (at.Constant of e) y b w = then_can (Rests (num_expression p e)) (ExpressionRest p const_op e) (AfterConstant loose p of) (expression_can const_op e) (after_constant p of) b w
   member_can (at.Length of r) y b w = counted_can r nothing_at (λ n. Times n (Listed loose p of)) (λ n. some_times n (Listed loose p of) (some_listed p of)) b w
   member_can (at.EntrySize r) y b w = counted_can r (λ n. Some body) (InSize loose p) (some_size p) b w
@@ -287,17 +316,17 @@ module _ (p : Profile) where
   number_can (machine.Custom last counts more custom.Skip) y b w = absurd w
   number_can (machine.Custom last counts more (custom.Failed v)) y b w = absurd w
   number_can (machine.Size of counts r) y b w =
-      for_can (RestOf u32 r) (KnownIn (id_of of) counts) (λ f. Counted (Left r) nothing_at (InSectionSize loose p of f)) counts.functions (λ l. refl) (counted_can r nothing_at (InSectionSize loose p of counts.functions) (some_section_size p of counts.functions)) b w
+      for_can (RestOf u32 r) (KnownIn loose (rank_of of) counts) (λ f. Counted (Left r) nothing_at (InSectionSize loose p of f)) (freely counts) ((λ l. refl), (λ d. absurd d)) (counted_can r nothing_at (InSectionSize loose p of (freely counts)) (some_section_size p of (freely counts))) b w
   number_can (machine.Count of counts more r) y b w =
       let W : Form ℕ = RestOf u32 r in
-      let L : ℕ → MarkedForm = λ f. Sized loose (suc more) (ListedMembers loose p of r f) in
-      let v : PartsCan W (L counts.functions) = sized_can W (suc more) (ListedMembers loose p of r counts.functions) (counted_can r nothing_at (ListOf loose p of counts.functions) (some_listed_members p of counts.functions)) in
-      for_can W (KnownIn (id_of of) counts) (λ f. Then (L f) (After loose p of f)) counts.functions (λ l. refl) (then_can W (L counts.functions) (After loose p of counts.functions) v (some_after p of counts.functions)) b w
+      let L : ModuleCounts → MarkedForm = λ f. Sized loose (suc more) (ListedMembers loose p of r f) in
+      let v : PartsCan W (L (freely counts)) = sized_can W (suc more) (ListedMembers loose p of r (freely counts)) (counted_can r (count_item of) (ListOf loose p of (freely counts)) (some_listed_members p of (freely counts))) in
+      for_can W (KnownIn loose (rank_of of) counts) (λ f. Then (L f) (After loose p of f)) (freely counts) ((λ l. refl), (λ d. absurd d)) (then_can W (L (freely counts)) (After loose p of (freely counts)) v (some_after p of (freely counts))) b w
   number_can (machine.Section of counts more left q) y b w =
       let W : Form ℕ = Rests (num_member p q) in
       let M : MarkedForm = Times left (OneOf loose p of) in
       let v : PartsCan W (Within loose p of left q y) = then_can W (ComponentRest loose p q y) M (member_can q y) (some_times left (OneOf loose p of) (some_one p of)) in
-      then_can W (Sized loose (suc more) (Within loose p of left q y)) (Later loose p (id_of of) counts) (sized_can W (suc more) (Within loose p of left q y) v) (some_later p (id_of of) counts) b w
+      then_can W (Sized loose (suc more) (Within loose p of left q y)) (Later loose p (rank_of of) counts) (sized_can W (suc more) (Within loose p of left q y) v) (some_later p (rank_of of) counts) b w
   number_can (machine.Header n) y b w = absurd w
   number_can (machine.Between last counts) y b w = absurd w
   number_can (machine.Refused v) y b w = absurd w

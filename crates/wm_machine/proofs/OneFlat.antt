@@ -1,11 +1,13 @@
 -- The items determine the flat module.
 use Rattle.std.proofs.Common.{ℕ, suc, ◌≡◌, ◌≤◌, List, [], ◌∷◌, ◌++◌, Option, Some, None, length, flat_map, map, refl, sym, ◌∙◌, ap, subst, append-nil, arith, get_or}
+use Rattle.wm_machine.specs.Flat.{element_head, segment_head}
+use Rattle.wm_machine.specs.Items.{passive_element, passive_segment}
 use Rattle.std.specs.List.{AllByRecursion}
 use Rattle.wm_syntax.specs.declared.types.ValType.{ValType}
 use Rattle.wm_syntax.specs.Types.{Signature}
 use Rattle.wm_syntax.specs.Modules.{Import, Export}
-use Rattle.wm_machine.specs.Items.{Item, new_type, param, result_count, one_result, import_module, import_name, import_desc, function, table, memory, global, const_op, export_name, export, start, element, element_function, body, locals, body_op, segment, data_byte}
-use Rattle.wm_machine.specs.Flat.{FlatGlobal, FlatElement, FlatCode, FlatSegment, FlatModule, type_items, import_items, global_items, export_items, start_items, element_items, code_items, segment_items, flat_items}
+use Rattle.wm_machine.specs.Items.{Item, new_type, param, result_count, one_result, import_module, import_name, import_desc, function, table, memory, global, const_op, export_name, export, start, element, element_function, data_count, body, locals, body_op, segment, data_byte}
+use Rattle.wm_machine.specs.Flat.{FlatGlobal, FlatElement, FlatCode, FlatSegment, FlatModule, type_items, import_items, global_items, export_items, start_items, element_items, count_items, code_items, segment_items, flat_items}
 
 -- Where one kind of item ends and another begins, a list can be cut in one place only.
 abbrev Stops : (Item → Type 0) → List Item → Type 0
@@ -54,6 +56,8 @@ IsHead (export_name text) = Unit {0}
 IsHead (element x) = Unit {0}
 IsHead body = Unit {0}
 IsHead (segment x) = Unit {0}
+IsHead passive_element = Unit {0}
+IsHead passive_segment = Unit {0}
 IsHead _ = ⊥
 
 abbrev IsInner : Item → Type 0
@@ -143,14 +147,25 @@ exports_same = members_same (λ e. export_name e.name) (λ e. export e.kind e.in
         all
 
 elements_same : (xs ys : List FlatElement) → flat_map element_items xs ≡ flat_map element_items ys → xs ≡ ys
-elements_same = members_same (λ e. element e.table) (λ e. map const_op e.offset ++ map element_function e.functions) (λ e. tt)
+elements_same = members_same (λ e. element_head e.table) (λ e. map const_op e.offset ++ map element_function e.functions) (λ e. head e.table)
     (λ e. all_both IsInner (map const_op e.offset) (map element_function e.functions) (map_all const_op IsInner (λ o h. h) e.offset) (map_all element_function IsInner (λ x h. h) e.functions))
     same
   where
-    same : (d e : FlatElement) → element d.table ≡ element e.table → map const_op d.offset ++ map element_function d.functions ≡ map const_op e.offset ++ map element_function e.functions → d ≡ e
+    head : (table : Option ℕ) → IsHead (element_head table)
+    head None = tt
+    head (Some x) = tt
+
+    tables_same : (x y : Option ℕ) → element_head x ≡ element_head y → x ≡ y
+    tables_same None None h = refl
+    tables_same None (Some y) h = cc
+    tables_same (Some x) None h = cc
+    tables_same (Some x) (Some y) h = cc
+
+    same : (d e : FlatElement) → element_head d.table ≡ element_head e.table → map const_op d.offset ++ map element_function d.functions ≡ map const_op e.offset ++ map element_function e.functions → d ≡ e
     same d e h r =
         let q = runs_same IsConstOp const_op element_function (λ o. tt) (λ x h. h) (λ o p e. cc) (λ x y e. cc) d.offset e.offset d.functions e.functions r in
-        let all : record { table = d.table; offset = d.offset; functions = d.functions } ≡ record { table = e.table; offset = e.offset; functions = e.functions } = cc (h, q.0, q.1) in
+        let tables : d.table ≡ e.table = tables_same d.table e.table h in
+        let all : record { table = d.table; offset = d.offset; functions = d.functions } ≡ record { table = e.table; offset = e.offset; functions = e.functions } = cc (tables, q.0, q.1) in
         all
 
 codes_same : (xs ys : List FlatCode) → flat_map code_items xs ≡ flat_map code_items ys → xs ≡ ys
@@ -168,17 +183,28 @@ codes_same = members_same (λ c. body) (λ c. map (λ r. locals r.0 r.1) c.runs 
         all
 
 segments_same : (xs ys : List FlatSegment) → flat_map segment_items xs ≡ flat_map segment_items ys → xs ≡ ys
-segments_same = members_same (λ s. segment s.memory) (λ s. map const_op s.offset ++ map data_byte s.bytes) (λ s. tt)
+segments_same = members_same (λ s. segment_head s.memory) (λ s. map const_op s.offset ++ map data_byte s.bytes) (λ s. head s.memory)
     (λ s. all_both IsInner (map const_op s.offset) (map data_byte s.bytes) (map_all const_op IsInner (λ o h. h) s.offset) (map_all data_byte IsInner (λ x h. h) s.bytes))
     same
   where
-    same : (s t : FlatSegment) → segment s.memory ≡ segment t.memory → map const_op s.offset ++ map data_byte s.bytes ≡ map const_op t.offset ++ map data_byte t.bytes → s ≡ t
+    head : (memory : Option ℕ) → IsHead (segment_head memory)
+    head None = tt
+    head (Some x) = tt
+
+    memories_same : (x y : Option ℕ) → segment_head x ≡ segment_head y → x ≡ y
+    memories_same None None h = refl
+    memories_same None (Some y) h = cc
+    memories_same (Some x) None h = cc
+    memories_same (Some x) (Some y) h = cc
+
+    same : (s t : FlatSegment) → segment_head s.memory ≡ segment_head t.memory → map const_op s.offset ++ map data_byte s.bytes ≡ map const_op t.offset ++ map data_byte t.bytes → s ≡ t
     same s t h r =
         let q = runs_same IsConstOp const_op data_byte (λ o. tt) (λ x h. h) (λ o p e. cc) (λ x y e. cc) s.offset t.offset s.bytes t.bytes r in
-        let all : record { memory = s.memory; offset = s.offset; bytes = s.bytes } ≡ record { memory = t.memory; offset = t.offset; bytes = t.bytes } = cc (h, q.0, q.1) in
+        let memories : s.memory ≡ t.memory = memories_same s.memory t.memory h in
+        let all : record { memory = s.memory; offset = s.offset; bytes = s.bytes } ≡ record { memory = t.memory; offset = t.offset; bytes = t.bytes } = cc (memories, q.0, q.1) in
         all
 
--- The section to which an item belongs. An op of a constant is in three, and begins none.
+-- The rank of the section to which an item belongs. An op of a constant is in three, and begins none.
 abbrev section : Item → ℕ
 section new_type = 1
 section (param t) = 1
@@ -196,12 +222,15 @@ section (export_name text) = 7
 section (export k x) = 7
 section (start x) = 8
 section (element x) = 9
+section passive_element = 9
 section (element_function x) = 9
-section body = 10
-section (locals n t) = 10
-section (body_op o) = 10
-section (segment x) = 11
-section (data_byte c) = 11
+section (data_count n) = 10
+section body = 11
+section (locals n t) = 11
+section (body_op o) = 11
+section (segment x) = 12
+section passive_segment = 12
+section (data_byte c) = 12
 
 abbrev UpTo : ℕ → Item → Type 0
 UpTo i x = section x ≤ i
@@ -267,6 +296,16 @@ start_same None (Some y) e = cc
 start_same (Some x) None e = cc
 start_same (Some x) (Some y) e = cc
 
+count_section : (x : Option ℕ) → IsSection 10 (count_items x)
+count_section None = (tt, tt)
+count_section (Some x) = ((omega arith, tt), omega arith)
+
+count_same : (x y : Option ℕ) → count_items x ≡ count_items y → x ≡ y
+count_same None None e = refl
+count_same None (Some y) e = cc
+count_same (Some x) None e = cc
+count_same (Some x) (Some y) e = cc
+
 -- the items of each section
 abbrev by_section : FlatModule → List (List Item)
 by_section v =
@@ -279,19 +318,20 @@ by_section v =
     ∷ flat_map export_items v.exports
     ∷ start_items v.start
     ∷ flat_map element_items v.elements
+    ∷ count_items v.data_count
     ∷ flat_map code_items v.codes
     ∷ flat_map segment_items v.segments
     ∷ []
 
-last_alone : (a b c d e f g h i j k : List Item) → a ++ (b ++ (c ++ (d ++ (e ++ (f ++ (g ++ (h ++ (i ++ (j ++ (k ++ [])))))))))) ≡ a ++ (b ++ (c ++ (d ++ (e ++ (f ++ (g ++ (h ++ (i ++ (j ++ k)))))))))
-last_alone a b c d e f g h i j k = ap (λ l. a ++ (b ++ (c ++ (d ++ (e ++ (f ++ (g ++ (h ++ (i ++ (j ++ l)))))))))) (append-nil k)
+last_alone : (a b c d e f g h i j k m : List Item) → a ++ (b ++ (c ++ (d ++ (e ++ (f ++ (g ++ (h ++ (i ++ (j ++ (k ++ (m ++ []))))))))))) ≡ a ++ (b ++ (c ++ (d ++ (e ++ (f ++ (g ++ (h ++ (i ++ (j ++ (k ++ m))))))))))
+last_alone a b c d e f g h i j k m = ap (λ l. a ++ (b ++ (c ++ (d ++ (e ++ (f ++ (g ++ (h ++ (i ++ (j ++ (k ++ l))))))))))) (append-nil m)
 
 joined : (v : FlatModule) → flat_map (λ a. a) (by_section v) ≡ flat_items v
 joined v = last_alone (flat_map type_items v.types) (flat_map import_items v.imports) (map function v.functions) (map table v.tables) (map memory v.memories)
-    (flat_map global_items v.globals) (flat_map export_items v.exports) (start_items v.start) (flat_map element_items v.elements) (flat_map code_items v.codes) (flat_map segment_items v.segments)
+    (flat_map global_items v.globals) (flat_map export_items v.exports) (start_items v.start) (flat_map element_items v.elements) (count_items v.data_count) (flat_map code_items v.codes) (flat_map segment_items v.segments)
 
 are_sections : (v : FlatModule) → AreSections 1 (by_section v)
-are_sections v = (types, (imports, (functions, (tables, (memories, (globals, (exports, (start_section v.start, (elements, (codes, (segments, tt)))))))))))
+are_sections v = (types, (imports, (functions, (tables, (memories, (globals, (exports, (start_section v.start, (elements, (count_section v.data_count, (codes, (segments, tt))))))))))))
   where
     types : IsSection 1 (flat_map type_items v.types)
     types = members_section (λ f. new_type) (λ f. map param f.params ++ (result_count (length f.results) ∷ map one_result f.results)) 1 (λ f. refl)
@@ -317,19 +357,27 @@ are_sections v = (types, (imports, (functions, (tables, (memories, (globals, (ex
     exports = members_section (λ e. export_name e.name) (λ e. export e.kind e.index ∷ []) 7 (λ e. refl) (λ e. (omega arith, tt)) v.exports
 
     elements : IsSection 9 (flat_map element_items v.elements)
-    elements = members_section (λ e. element e.table) (λ e. map const_op e.offset ++ map element_function e.functions) 9 (λ e. refl)
+    elements = members_section (λ e. element_head e.table) (λ e. map const_op e.offset ++ map element_function e.functions) 9 (λ e. at_nine e.table)
         (λ e. all_both (UpTo 9) (map const_op e.offset) (map element_function e.functions) (map_all const_op (UpTo 9) (λ o. omega arith) e.offset) (map_all element_function (UpTo 9) (λ x. omega arith) e.functions))
         v.elements
+      where
+        at_nine : (table : Option ℕ) → section (element_head table) ≡ 9
+        at_nine None = refl
+        at_nine (Some x) = refl
 
-    codes : IsSection 10 (flat_map code_items v.codes)
-    codes = members_section (λ c. body) (λ c. map (λ r. locals r.0 r.1) c.runs ++ map body_op c.ops) 10 (λ c. refl)
-        (λ c. all_both (UpTo 10) (map (λ r. locals r.0 r.1) c.runs) (map body_op c.ops) (map_all (λ r. locals r.0 r.1) (UpTo 10) (λ r. omega arith) c.runs) (map_all body_op (UpTo 10) (λ o. omega arith) c.ops))
+    codes : IsSection 11 (flat_map code_items v.codes)
+    codes = members_section (λ c. body) (λ c. map (λ r. locals r.0 r.1) c.runs ++ map body_op c.ops) 11 (λ c. refl)
+        (λ c. all_both (UpTo 11) (map (λ r. locals r.0 r.1) c.runs) (map body_op c.ops) (map_all (λ r. locals r.0 r.1) (UpTo 11) (λ r. omega arith) c.runs) (map_all body_op (UpTo 11) (λ o. omega arith) c.ops))
         v.codes
 
-    segments : IsSection 11 (flat_map segment_items v.segments)
-    segments = members_section (λ s. segment s.memory) (λ s. map const_op s.offset ++ map data_byte s.bytes) 11 (λ s. refl)
-        (λ s. all_both (UpTo 11) (map const_op s.offset) (map data_byte s.bytes) (map_all const_op (UpTo 11) (λ o. omega arith) s.offset) (map_all data_byte (UpTo 11) (λ c. omega arith) s.bytes))
+    segments : IsSection 12 (flat_map segment_items v.segments)
+    segments = members_section (λ s. segment_head s.memory) (λ s. map const_op s.offset ++ map data_byte s.bytes) 12 (λ s. at_last s.memory)
+        (λ s. all_both (UpTo 12) (map const_op s.offset) (map data_byte s.bytes) (map_all const_op (UpTo 12) (λ o. omega arith) s.offset) (map_all data_byte (UpTo 12) (λ c. omega arith) s.bytes))
         v.segments
+      where
+        at_last : (memory : Option ℕ) → section (segment_head memory) ≡ 12
+        at_last None = refl
+        at_last (Some x) = refl
 
 -- one list of items is that of one flat module alone
 pub one_flat : (v w : FlatModule) → flat_items v ≡ flat_items w → v ≡ w
@@ -344,9 +392,10 @@ one_flat v w e =
     let exports : v.exports ≡ w.exports = exports_same v.exports w.exports (ap (λ l. get_or l 6 []) items) in
     let begins : v.start ≡ w.start = start_same v.start w.start (ap (λ l. get_or l 7 []) items) in
     let elements : v.elements ≡ w.elements = elements_same v.elements w.elements (ap (λ l. get_or l 8 []) items) in
-    let codes : v.codes ≡ w.codes = codes_same v.codes w.codes (ap (λ l. get_or l 9 []) items) in
-    let segments : v.segments ≡ w.segments = segments_same v.segments w.segments (ap (λ l. get_or l 10 []) items) in
-    let all : record { types = v.types; imports = v.imports; functions = v.functions; tables = v.tables; memories = v.memories; globals = v.globals; exports = v.exports; start = v.start; elements = v.elements; codes = v.codes; segments = v.segments }
-    ≡ record { types = w.types; imports = w.imports; functions = w.functions; tables = w.tables; memories = w.memories; globals = w.globals; exports = w.exports; start = w.start; elements = w.elements; codes = w.codes; segments = w.segments }
-    = cc (types, imports, functions, tables, memories, globals, exports, begins, elements, codes, segments) in
+    let counts : v.data_count ≡ w.data_count = count_same v.data_count w.data_count (ap (λ l. get_or l 9 []) items) in
+    let codes : v.codes ≡ w.codes = codes_same v.codes w.codes (ap (λ l. get_or l 10 []) items) in
+    let segments : v.segments ≡ w.segments = segments_same v.segments w.segments (ap (λ l. get_or l 11 []) items) in
+    let all : record { types = v.types; imports = v.imports; functions = v.functions; tables = v.tables; memories = v.memories; globals = v.globals; exports = v.exports; start = v.start; elements = v.elements; data_count = v.data_count; codes = v.codes; segments = v.segments }
+    ≡ record { types = w.types; imports = w.imports; functions = w.functions; tables = w.tables; memories = w.memories; globals = w.globals; exports = w.exports; start = w.start; elements = w.elements; data_count = w.data_count; codes = w.codes; segments = w.segments }
+    = cc (types, imports, functions, tables, memories, globals, exports, begins, elements, counts, codes, segments) in
     all

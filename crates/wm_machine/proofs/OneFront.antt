@@ -1,11 +1,17 @@
 -- The front of an input has one reading: as long as the bytes of two inputs agree, their marks agree.
 use Rattle.std.proofs.Common.{ℕ, zero, suc, ◌≡◌, ◌+◌, ◌-◌, ◌≤◌, ◌<◌, ◌^◌, ◌⊎◌, inl, inr, List, [], ◌∷◌, ◌++◌, Option, Some, None, length, refl, sym, ◌∙◌, ap, subst, append-nil, append_assoc, arith, nat_eq, true, false}
+use Rattle.std.proofs.Common.{Bool}
+use Rattle.wm_machine.specs.Grammar.{SegmentRest, segment_item}
+use Rattle.wm_syntax.specs.Profiles.{has}
+use Rattle.wm_syntax.specs.declared.profile.Feature.TheVariants.{BulkMemory}
 use Rattle.std.proofs.lemmas.Bool.{eqb-true, eqb-false}
 use Rattle.wm_syntax.specs.declared.instructions.Op.{Op}
 use Rattle.wm_syntax.specs.declared.instructions.Op.TheVariants as op
 use Rattle.wm_syntax.specs.declared.instructions.Simple.{Simple}
 use Rattle.wm_syntax.specs.declared.instructions.Simple.TheVariants as simple
 use Rattle.wm_syntax.specs.declared.modules.ExportKind.{ExportKind}
+use Rattle.wm_syntax.specs.declared.instructions.op_class.Indexed.TheVariants as indexed
+use Rattle.wm_syntax.specs.declared.instructions.op_class.BlockOp.TheVariants as opening
 use Rattle.wm_syntax.specs.declared.instructions.op_class.Immediates.TheVariants as kind
 use Rattle.wm_syntax.specs.declared.instructions.op_class.OpClass.{OpClass}
 use Rattle.wm_syntax.specs.declared.instructions.op_class.OpClass.TheVariants.{Plain, With}
@@ -23,17 +29,21 @@ use Rattle.wm_syntax.proofs.OneInstruction.{apart_op, class_there}
 use Rattle.wm_syntax.proofs.CodeBytes.{same_code}
 use Rattle.wm_machine.proofs.OpBytes.{NoLabel, code_first, has_first}
 use Rattle.wm_machine.specs.Sections.{SpellsDesc, kind_byte, header}
-use Rattle.wm_machine.specs.Items.{Item, entry, closing, Mark, Marks, new_type, param, result_count, one_result, import_module, import_name, import_desc, function, table, memory, global, const_op, export_name, export, start, element, element_function, body, locals, body_op, segment, data_byte}
+use Rattle.wm_machine.specs.Items.{Item, entry, closing, Mark, Marks, new_type, param, result_count, one_result, import_module, import_name, import_desc, function, table, memory, global, const_op, export_name, export, start, element_function, data_count, body, locals, body_op, data_byte}
 use Rattle.wm_machine.specs.MarkedForms.{MarkedForm, Empty, MarkedByte, Literal, Then, Times, Leaf, MarkedNumber, Vector, Index, Name, Sized, Filled, Entry, nothing_at, outside_mark, marks_ending, name_byte_marks, name_marks, in_zone, entry_marks}
-use Rattle.wm_machine.specs.Grammar.{loose, ValueType, ResultTypes, FunctionType, ImportForm, HasLabels, IsExpression, EachOp, Expression, Global, HasGlobalType, ExportForm, ElementForm, Run, Code, DataByte, SegmentForm, Paired, Contents, Section, Custom, Optional, Chain, ModuleForm}
+use Rattle.wm_machine.specs.Grammar.{ModuleCounts, SegmentCount, id_at, loose, ValueType, ResultTypes, FunctionType, ImportForm, HasLabels, IsExpression, EachOp, Expression, Global, HasGlobalType, ExportForm, Run, Code, DataByte, SegmentForm, Paired, Contents, Section, Custom, Optional, Chain, ModuleForm}
 use Rattle.wm_syntax.specs.Instructions.{openings, endings}
 use Rattle.wm_machine.specs.Fronts.{IsFront}
 use Rattle.wm_machine.proofs.FirstBytes.{tail_same, not_nil}
+use Rattle.wm_machine.proofs.Ranks.{same_rank as one_rank}
 use Rattle.wm_machine.proofs.OneSpelling.{Same, Once, byte_same, same_as, tagged, once_then, once_type, once_those, once_limits, once_table, once_global_type, once_desc, once_kind, once_run}
 use Rattle.wm_syntax.specs.Profiles.{every}
 use Rattle.wm_syntax.specs.declared.profile.Feature.TheVariants.{LongIndex}
 use Rattle.wm_syntax.proofs.ProfileLaws.{every_extends}
 use Rattle.wm_syntax.proofs.SpelledMore.{op_spelled_more}
+use Rattle.wm_machine.specs.declared.machine.member.SegmentKind.{SegmentKind}
+use Rattle.wm_machine.specs.declared.machine.member.SegmentKind.TheVariants as segments
+use Rattle.wm_machine.specs.Grammar.{active_item, SegmentList, KindedList}
 
 abbrev Done : Type 0
 Done = Unit {0}
@@ -234,10 +244,10 @@ labels_first (suc n) o ops h = absurd h
 
 -- which of the ops that are no simple instruction a first byte says
 abbrev rank : OpClass → ℕ
-rank (With kind.Block) = 1
-rank (With kind.Loop) = 2
-rank (With kind.If) = 3
-rank (With kind.BrTable) = 4
+rank (With (kind.Block opening.Block)) = 1
+rank (With (kind.Block opening.Loop)) = 2
+rank (With (kind.Block opening.If)) = 3
+rank (With (kind.Index indexed.BrTable)) = 4
 rank (Plain op.Else) = 5
 rank (Plain op.End) = 6
 rank _ = 0
@@ -344,11 +354,26 @@ module _ (p : Profile) where
   global_alike : Alike (Global p)
   global_alike = then_alike (leaf_alike (once_those (HasGlobalType p) SpellsGlobalType once_global_type) global) (expression_alike p const_op)
 
-  element_alike : Alike (ElementForm p)
-  element_alike = then_alike (index_alike element) (then_alike (expression_alike p const_op) (vector_alike (index_alike element_function)))
+  list_alike : (of : SegmentKind) → Alike (SegmentList of)
+  list_alike segments.Element = vector_alike (index_alike element_function)
+  list_alike segments.Data = vector_alike data_alike
 
-  segment_alike : Alike (SegmentForm p)
-  segment_alike = then_alike (index_alike segment) (then_alike (expression_alike p const_op) (vector_alike data_alike))
+  kinded_alike : (of : SegmentKind) → Alike (KindedList of)
+  kinded_alike segments.Element = then_alike (byte_alike 0x00 None) (list_alike segments.Element)
+  kinded_alike segments.Data = list_alike segments.Data
+
+  segment_alike : (of : SegmentKind) → Alike (SegmentForm p of)
+  segment_alike of = let R : ℕ → MarkedForm = SegmentRest p (has p BulkMemory) of in number_alike (segment_item (has p BulkMemory) of) R R (front_alike (has p BulkMemory))
+    where
+      active_alike : Alike (Then (Expression p const_op) (SegmentList of))
+      active_alike = then_alike (expression_alike p const_op) (list_alike of)
+
+      front_alike : (f : Bool) (n : ℕ) → Alike (SegmentRest p f of n)
+      front_alike false n = active_alike
+      front_alike true zero = active_alike
+      front_alike true (suc zero) = kinded_alike of
+      front_alike true (suc (suc zero)) = then_alike (index_alike (active_item of)) (then_alike (expression_alike p const_op) (kinded_alike of))
+      front_alike true (suc (suc (suc n))) = λ a j b k h i. absurd h
 
   code_alike : Alike (Code loose p)
   code_alike =
@@ -360,23 +385,28 @@ module _ (p : Profile) where
   paired_alike {P} f g h =
       number_alike nothing_at (λ n b k. (loose → n ≡ f) × Times n P b k) (λ n b k. (loose → n ≡ g) × Times n P b k) (λ n a j b k x y. times_alike h n a j b k x.1 y.1)
 
-  contents_alike : (f g id : ℕ) → Meets (Contents loose p f id) (Contents loose p g id) Done
+  count_alike : (n m : ℕ) → Meets (SegmentCount loose n) (SegmentCount loose m) Done
+  count_alike n m =
+      number_alike (λ c. Some (data_count c)) (λ c b k. (loose → c ≡ n) × Empty b k) (λ c b k. (loose → c ≡ m) × Empty b k) (λ c a j b k x y. empty_alike a j b k x.1 y.1)
+
+  contents_alike : (f g : ModuleCounts) (rank : ℕ) → Meets (Contents loose p f rank) (Contents loose p g rank) Done
   contents_alike f g (suc zero) = vector_alike (function_type_alike p)
   contents_alike f g (suc (suc zero)) = vector_alike (import_alike p)
-  contents_alike f g (suc (suc (suc zero))) = paired_alike f g (index_alike function)
+  contents_alike f g (suc (suc (suc zero))) = paired_alike f.functions g.functions (index_alike function)
   contents_alike f g (suc (suc (suc (suc zero)))) = vector_alike (leaf_alike once_table table)
   contents_alike f g (suc (suc (suc (suc (suc zero))))) = vector_alike (leaf_alike once_limits memory)
   contents_alike f g (suc (suc (suc (suc (suc (suc zero)))))) = vector_alike global_alike
   contents_alike f g (suc (suc (suc (suc (suc (suc (suc zero))))))) = vector_alike export_alike
   contents_alike f g (suc (suc (suc (suc (suc (suc (suc (suc zero)))))))) = index_alike start
-  contents_alike f g (suc (suc (suc (suc (suc (suc (suc (suc (suc zero))))))))) = vector_alike element_alike
-  contents_alike f g (suc (suc (suc (suc (suc (suc (suc (suc (suc (suc zero)))))))))) = paired_alike f g code_alike
-  contents_alike f g (suc (suc (suc (suc (suc (suc (suc (suc (suc (suc (suc zero))))))))))) = vector_alike segment_alike
+  contents_alike f g (suc (suc (suc (suc (suc (suc (suc (suc (suc zero))))))))) = vector_alike (segment_alike segments.Element)
+  contents_alike f g (suc (suc (suc (suc (suc (suc (suc (suc (suc (suc zero)))))))))) = count_alike f.segments g.segments
+  contents_alike f g (suc (suc (suc (suc (suc (suc (suc (suc (suc (suc (suc zero))))))))))) = paired_alike f.functions g.functions code_alike
+  contents_alike f g (suc (suc (suc (suc (suc (suc (suc (suc (suc (suc (suc (suc zero)))))))))))) = paired_alike f.segments g.segments (segment_alike segments.Data)
   contents_alike f g _ = λ a j b k h i. absurd h
 
-  section_alike : (f g id : ℕ) → Meets (Section loose p f id) (Section loose p g id) Done
-  section_alike f g id =
-      then_meets Done Done (byte_alike id None) (λ d. number_alike nothing_at (λ n. Sized loose n (Contents loose p f id)) (λ n. Sized loose n (Contents loose p g id)) (λ n. sized_meets Done n n (contents_alike f g id)))
+  section_alike : (f g : ModuleCounts) (rank : ℕ) → Meets (Section loose p f rank) (Section loose p g rank) Done
+  section_alike f g rank =
+      then_meets Done Done (byte_alike (id_at rank) None) (λ d. number_alike nothing_at (λ n. Sized loose n (Contents loose p f rank)) (λ n. Sized loose n (Contents loose p g rank)) (λ n. sized_meets Done n n (contents_alike f g rank)))
 
 custom_alike : Alike (Custom loose)
 custom_alike =
@@ -413,10 +443,10 @@ same_or x y = (elim (nat_eq x y) as (λ v. nat_eq x y ≡ v → (x ≡ y) ⊎ (x
 ]) refl
 
 module _ (p : Profile) where
-  -- so many sections in all, custom ones too, of which the others have ids from one on
+  -- so many sections in all, custom ones too, of which the others have ranks from one on
   abbrev Tails : ℕ → ℕ → MarkedForm
   Tails zero id b k = Empty b k
-  Tails (suc n) id b k = Then (Custom loose) (Tails n id) b k ⊎ ((x : ℕ) × (f : ℕ) × (id ≤ x) × Then (Section loose p f x) (Tails n (suc x)) b k)
+  Tails (suc n) id b k = Then (Custom loose) (Tails n id) b k ⊎ ((x : ℕ) × (f : ModuleCounts) × (id ≤ x) × Then (Section loose p f x) (Tails n (suc x)) b k)
 
   abbrev Tail : ℕ → MarkedForm
   Tail id b k = (n : ℕ) × Tails n id b k
@@ -444,13 +474,13 @@ module _ (p : Profile) where
         }),
       )
 
-  after_section : (f id : ℕ) (a : List ℕ) (j : Marks) → Optional loose p f id a j → (b : List ℕ) (k : Marks) → Tail (suc id) b k → Tail id (a ++ b) (j ++ k)
-  after_section f id a j (inl h) b k t = (suc t.0, inr (id, f, (omega arith), record { front = a; back = b; front_marks = j; back_marks = k; bytes = refl; marks = refl; first = h; second = t.1 }))
+  after_section : (f : ModuleCounts) (id : ℕ) (a : List ℕ) (j : Marks) → Optional loose p f id a j → (b : List ℕ) (k : Marks) → Tail (suc id) b k → Tail id (a ++ b) (j ++ k)
+  after_section f id a j (inl h) b k t = (suc t.0, inr (id, f, (omega arith), record { front = a; back = b; front_marks = j; back_marks = k; bytes = refl; marks = refl; first = h.1; second = t.1 }))
   after_section f id a j (inr h) b k t =
       let low : id ≤ suc id = omega arith in
       subst (λ y. Tail id y (j ++ k)) (sym (ap (λ y. y ++ b) h.1.0)) (subst (λ y. Tail id b y) (sym (ap (λ y. y ++ k) h.1.1)) (t.0, tails_from t.0 id (suc id) low b k t.1))
 
-  tail_of_chain : (f count id : ℕ) (b : List ℕ) (k : Marks) → Chain loose p f count id b k → Tail id b k
+  tail_of_chain : (f : ModuleCounts) (count id : ℕ) (b : List ℕ) (k : Marks) → Chain loose p f count id b k → Tail id b k
   tail_of_chain f zero id b k h =
       subst (λ y. Tail id y k) (append-nil b) (subst (λ y. Tail id (b ++ []) y) (append-nil k) (after_customs h.0 id b k h.1 [] [] (0, (refl, refl))))
   tail_of_chain f (suc count) id b k h =
@@ -484,9 +514,9 @@ module _ (p : Profile) where
       (agree_then Done h.front h.front_marks i.front i.front_marks h.back h.back_marks i.back i.back_marks (custom_alike h.front h.front_marks i.front i.front_marks h.first i.first)
       (λ d. tails_agree n m id low h.back h.back_marks i.back i.back_marks h.second i.second))
   tails_agree (suc n) (suc m) id low a j b k (inl h) (inr (x, f, l, i)) =
-      other_sections 0 x (λ n. Filled loose n (Name loose (λ text. None))) (λ n. Sized loose n (Contents loose p f x)) (Tails n id) (Tails m (suc x)) (λ e. omega (arith, e, l, low)) a j b k h i
+      other_sections 0 (id_at x) (λ n. Filled loose n (Name loose (λ text. None))) (λ n. Sized loose n (Contents loose p f x)) (Tails n id) (Tails m (suc x)) (λ e. let z : 0 ≡ x = one_rank 0 x e in omega (arith, z, l, low)) a j b k h i
   tails_agree (suc n) (suc m) id low a j b k (inr (x, f, l, h)) (inl i) =
-      other_sections x 0 (λ n. Sized loose n (Contents loose p f x)) (λ n. Filled loose n (Name loose (λ text. None))) (Tails n (suc x)) (Tails m id) (λ e. omega (arith, e, l, low)) a j b k h i
+      other_sections (id_at x) 0 (λ n. Sized loose n (Contents loose p f x)) (λ n. Filled loose n (Name loose (λ text. None))) (Tails n (suc x)) (Tails m id) (λ e. let z : x ≡ 0 = one_rank x 0 e in omega (arith, z, l, low)) a j b k h i
   tails_agree (suc n) (suc m) id low a j b k (inr (x, f, l, h)) (inr (y, g, l', i)) =
       elim (same_or x y) [
         | inl e ↦
@@ -495,13 +525,13 @@ module _ (p : Profile) where
             agree_at h.bytes h.marks i'.bytes i'.marks
             (agree_then Done h.front h.front_marks i'.front i'.front_marks h.back h.back_marks i'.back i'.back_marks (section_alike p f g x h.front h.front_marks i'.front i'.front_marks h.first i'.first)
             (λ d. tails_agree n m (suc x) low' h.back h.back_marks i'.back i'.back_marks h.second i'.second))
-        | inr ne ↦ other_sections x y (λ n. Sized loose n (Contents loose p f x)) (λ n. Sized loose n (Contents loose p g y)) (Tails n (suc x)) (Tails m (suc y)) ne a j b k h i
+        | inr ne ↦ other_sections (id_at x) (id_at y) (λ n. Sized loose n (Contents loose p f x)) (λ n. Sized loose n (Contents loose p g y)) (Tails n (suc x)) (Tails m (suc y)) (λ e. ne (one_rank x y e)) a j b k h i
       ]
 
   pub modules_agree : (a : List ℕ) (j : Marks) (b : List ℕ) (k : Marks) → ModuleForm loose p a j → ModuleForm loose p b k → Agree a j b k
   modules_agree a j b k (f, h) (g, i) =
-      let t = tail_of_chain f 11 1 h.back h.back_marks h.second in
-      let u = tail_of_chain g 11 1 i.back i.back_marks i.second in
+      let t = tail_of_chain f 12 1 h.back h.back_marks h.second in
+      let u = tail_of_chain g 12 1 i.back i.back_marks i.second in
       let low : 1 ≤ 1 = omega arith in
       agree_at h.bytes h.marks i.bytes i.marks
       (agree_then Done h.front h.front_marks i.front i.front_marks h.back h.back_marks i.back i.back_marks (literal_alike header h.front h.front_marks i.front i.front_marks h.first i.first)

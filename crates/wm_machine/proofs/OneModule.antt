@@ -1,5 +1,7 @@
 -- The flat value determines the module, and so do the items of an input.
 use Rattle.std.proofs.Common.{ℕ, ◌≡◌, List, [], ◌∷◌, ◌++◌, refl, sym, ◌∙◌, ap, subst}
+use Rattle.wm_syntax.specs.declared.modules.SegmentMode.{SegmentMode}
+use Rattle.wm_syntax.specs.declared.modules.SegmentMode.TheVariants.{Passive, Active}
 use Rattle.std.specs.List.{AllZip}
 use Rattle.std.proofs.lemmas.List.{append_cancel_right}
 use Rattle.wm_syntax.specs.declared.types.Const.{Const}
@@ -7,13 +9,13 @@ use Rattle.wm_syntax.specs.declared.types.Const.TheVariants as const
 use Rattle.wm_syntax.specs.declared.instructions.Op.TheVariants as op
 use Rattle.wm_syntax.specs.declared.profile.Profile.{Profile}
 use Rattle.wm_syntax.specs.Instructions.{HasOps}
-use Rattle.wm_syntax.specs.Modules.{Function, GlobalDef, Element, Segment, Module, constant}
+use Rattle.wm_syntax.specs.Modules.{Function, GlobalDef, Element, Segment, Module, constant, index_of}
 use Rattle.wm_syntax.specs.Profiles.{IsOf}
 use Rattle.wm_syntax.proofs.Bodies.{same_instructions}
 use Rattle.wm_machine.specs.Items.{Marks, items_at}
 use Rattle.wm_machine.specs.Sections.{SpellsModule}
 use Rattle.wm_machine.specs.Grammar.{strict, ModuleForm as Whole}
-use Rattle.wm_machine.specs.Flat.{FlatGlobal, FlatElement, FlatCode, FlatSegment, FlatModule, flat_items, SpellsFlat, constant_ops, IsIndexOf, IsCodeOf, IsGlobalOf, IsElementOf, IsSegmentOf, IsFlatOf}
+use Rattle.wm_machine.specs.Flat.{FlatGlobal, FlatElement, FlatCode, FlatSegment, FlatModule, flat_items, SpellsFlat, constant_ops, offset_ops, IsIndexOf, IsCodeOf, IsGlobalOf, IsElementOf, IsSegmentOf, IsFlatOf}
 use Rattle.wm_machine.proofs.GrammarValues.{items_from, items_to}
 use Rattle.wm_machine.proofs.Nesting.{flat_from, flat_to}
 use Rattle.wm_machine.proofs.OneFlat.{one_flat}
@@ -53,20 +55,27 @@ global_same g h v r s =
     let all : record { ty = g.ty; init = g.init } ≡ record { ty = h.ty; init = h.init } = cc (a, b) in
     all
 
+modes_same : (d e : SegmentMode) → index_of d ≡ index_of e → offset_ops d ≡ offset_ops e → d ≡ e
+modes_same Passive Passive i o = refl
+modes_same Passive (Active x c) i o = cc
+modes_same (Active x c) Passive i o = cc
+modes_same (Active x c) (Active y d) i o =
+    let index : x ≡ y = cc in
+    let offset : c ≡ d = ops_same c d o in
+    cc (index, offset)
+
 element_same : (d e : Element) (v : FlatElement) → IsElementOf d v → IsElementOf e v → d ≡ e
 element_same d e v r s =
-    let a : d.table ≡ e.table = sym r.0 ∙ s.0 in
-    let b : d.offset ≡ e.offset = ops_same d.offset e.offset (sym r.1 ∙ s.1) in
-    let c : d.functions ≡ e.functions = sym r.2 ∙ s.2 in
-    let all : record { table = d.table; offset = d.offset; functions = d.functions } ≡ record { table = e.table; offset = e.offset; functions = e.functions } = cc (a, b, c) in
+    let a : d.mode ≡ e.mode = modes_same d.mode e.mode (sym r.0 ∙ s.0) (sym r.1 ∙ s.1) in
+    let b : d.functions ≡ e.functions = sym r.2 ∙ s.2 in
+    let all : record { mode = d.mode; functions = d.functions } ≡ record { mode = e.mode; functions = e.functions } = cc (a, b) in
     all
 
 segment_same : (s t : Segment) (v : FlatSegment) → IsSegmentOf s v → IsSegmentOf t v → s ≡ t
 segment_same s t v r q =
-    let a : s.memory ≡ t.memory = sym r.0 ∙ q.0 in
-    let b : s.offset ≡ t.offset = ops_same s.offset t.offset (sym r.1 ∙ q.1) in
-    let c : s.bytes ≡ t.bytes = sym r.2 ∙ q.2 in
-    let all : record { memory = s.memory; offset = s.offset; bytes = s.bytes } ≡ record { memory = t.memory; offset = t.offset; bytes = t.bytes } = cc (a, b, c) in
+    let a : s.mode ≡ t.mode = modes_same s.mode t.mode (sym r.0 ∙ q.0) (sym r.1 ∙ q.1) in
+    let b : s.bytes ≡ t.bytes = sym r.2 ∙ q.2 in
+    let all : record { mode = s.mode; bytes = s.bytes } ≡ record { mode = t.mode; bytes = t.bytes } = cc (a, b) in
     all
 
 -- a function's type stands in the one section, its locals and its body in the other

@@ -1,5 +1,7 @@
 -- No bytes spell two modules.
-use Rattle.std.proofs.Common.{ℕ, suc, ◌≡◌, ◌≤◌, ◌<◌, List, [], ◌∷◌, ◌++◌, ◌⊎◌, Option, Some, None, true, false, length, map, refl, sym, ◌∙◌, ap, subst, append_assoc, arith, inl, inr}
+use Rattle.std.proofs.Common.{Bool, ℕ, suc, ◌≡◌, ◌≤◌, ◌<◌, List, [], ◌∷◌, ◌++◌, ◌⊎◌, Option, Some, None, true, false, length, map, refl, sym, ◌∙◌, ap, subst, append_assoc, arith, inl, inr}
+use Rattle.wm_syntax.specs.declared.modules.SegmentMode.{SegmentMode}
+use Rattle.wm_syntax.specs.declared.modules.SegmentMode.TheVariants.{Passive, Active}
 use Rattle.std.proofs.lemmas.List.{append_cancel_left, length-map}
 use Rattle.wm_syntax.specs.declared.types.ValType.{ValType}
 use Rattle.wm_syntax.proofs.SameTypes.{byte_tells}
@@ -10,16 +12,22 @@ use Rattle.wm_syntax.specs.Spelling.{Form, Byte, Exactly, AreBytes, Each, ◌▸
 use Rattle.wm_syntax.specs.Types.{SpellsU32, SpellsBytes, SpellsName, SpellsList, SpellsValType, SpellsSignature, SpellsBounds, SpellsLimits, SpellsTableType, SpellsVar, SpellsGlobalType, type_byte}
 use Rattle.wm_syntax.specs.Instructions.{Instructions}
 use Rattle.wm_syntax.specs.Encodings.{SpellsExpression}
-use Rattle.wm_syntax.specs.Modules.{Function, Module, constant_body}
+use Rattle.wm_syntax.specs.Modules.{Function, Module, bodies_name_segment, constant_body, index_of}
+use Rattle.wm_syntax.specs.declared.types.Const.{Const}
 use Rattle.wm_syntax.proofs.Unambiguous.{same_u32}
 use Rattle.wm_syntax.proofs.OneInstruction.{one_expression}
-use Rattle.wm_machine.specs.Sections.{Sized, Those, Section, ListSection, StartSection, Custom, Customs, SpellsCustom, header, SpellsConst, SpellsDesc, SpellsImport, SpellsGlobal, SpellsExport, SpellsElement, SpellsRun, SpellsLocals, SpellsSegment, SpellsModule, kind_byte}
+use Rattle.wm_machine.specs.Sections.{Sized, Those, Section, DataCountSection, ListSection, StartSection, Custom, Customs, SpellsCustom, header, SpellsConst, SpellsDesc, SpellsImport, SpellsGlobal, SpellsExport, SpellsElement, SpellsRun, SpellsLocals, SpellsMemory, SpellsOffset, SpellsSegment, SpellsModule, kind_byte}
 use Rattle.wm_syntax.specs.declared.profile.Profile.{Profile}
-use Rattle.wm_syntax.specs.Profiles.{every}
+use Rattle.wm_syntax.specs.Profiles.{Extends, every, has}
+use Rattle.wm_syntax.specs.declared.profile.Feature.TheVariants.{Base, Floats, SignExtension, LongIndex, Saturation, Copies, BulkMemory}
+use Rattle.wm_machine.specs.BetweenProfiles.{ReadSegmentsAlike}
 use Rattle.wm_syntax.proofs.ProfileLaws.{every_extends}
+use Rattle.wm_machine.specs.Grammar.{id_at}
+use Rattle.wm_machine.proofs.Ranks.{same_rank}
 use Rattle.wm_machine.proofs.Nesting.{spells_more}
 use Rattle.wm_syntax.specs.Modules.{locals_of}
 use Rattle.wm_machine.proofs.OneModule.{constants_same}
+use Rattle.wm_machine.specs.Sections.{SpellsElements}
 
 -- The bytes of the first form and of the second are equal, whatever follows them, and then D holds.
 abbrev pub Same : Form ℕ → Form ℕ → Type 0 → Type 0
@@ -188,11 +196,80 @@ once_const p c d = same_as (λ e. constants_same c d (cc)) (one_expression p p (
 once_global : (p : Profile) → Once (SpellsGlobal p)
 once_global p = once_as (λ g. (g.ty, g.init)) (λ z. record { ty = z.0; init = z.1 }) (λ g. refl) (once_then once_global_type (once_const p))
 
-once_element : (p : Profile) → Once (SpellsElement p)
-once_element p = once_as (λ e. (e.table, (e.offset, e.functions))) (λ z. record { table = z.0; offset = z.1.0; functions = z.1.1 }) (λ e. refl) (once_then same_u32 (once_then (once_const p) (once_list same_u32)))
+-- the front of a data segment
+abbrev OneNumber : ℕ → ℕ → Type 0
+OneNumber n m = Same (SpellsU32 n) (SpellsU32 m) (n ≡ m)
 
-once_segment : (p : Profile) → Once (SpellsSegment p)
-once_segment p = once_as (λ s. (s.memory, (s.offset, s.bytes))) (λ z. record { memory = z.0; offset = z.1.0; bytes = z.1.1 }) (λ s. refl) (once_then same_u32 (once_then (once_const p) once_bytes))
+-- one number alone, and another before something
+not_before : {P : Form ℕ} {E : Type 0} (n m : ℕ) → (n ≡ m → ⊥) → Same (SpellsU32 n) (SpellsU32 m ▸ P) E
+not_before n m apart a b u v h k e = absurd (apart (same_u32 n m a k.0 u (k.1 ++ v) h k.3 (e ∙ (ap (λ y. y ++ v) k.2 ∙ append_assoc k.0 k.1 v))).1)
+
+not_after : {P : Form ℕ} {E : Type 0} (n m : ℕ) → (m ≡ n → ⊥) → Same (SpellsU32 m ▸ P) (SpellsU32 n) E
+not_after n m apart a b u v h k e = absurd (apart (same_u32 m n h.0 b (h.1 ++ u) v h.3 k (sym (append_assoc h.0 h.1 u) ∙ (ap (λ y. y ++ u) (sym h.2) ∙ e))).1)
+
+-- different numbers before something
+other_number : {P Q : Form ℕ} {E : Type 0} (n m : ℕ) → (n ≡ m → ⊥) → Same (SpellsU32 n ▸ P) (SpellsU32 m ▸ Q) E
+other_number n m apart a b u v h k e =
+    let whole : h.0 ++ (h.1 ++ u) ≡ k.0 ++ (k.1 ++ v) = sym (append_assoc h.0 h.1 u) ∙ (ap (λ y. y ++ u) (sym h.2) ∙ (e ∙ (ap (λ y. y ++ v) k.2 ∙ append_assoc k.0 k.1 v))) in
+    absurd (apart (same_u32 n m h.0 k.0 (h.1 ++ u) (k.1 ++ v) h.3 k.3 whole).1)
+
+once_memory : (flagged : Bool) → Once (SpellsMemory flagged)
+once_memory false None y a b u v h k e = absurd h
+once_memory false (Some x) None a b u v h k e = absurd k
+once_memory false (Some x) (Some y) a b u v h k e = same_as (λ d. ap Some d) (same_u32 x y) a b u v h k e
+once_memory true None None a b u v h k e = same_as (λ d. refl) (same_u32 1 1) a b u v h k e
+once_memory true None (Some y) a b u v h (inl k) e = absurd (let d : 1 ≡ 0 = (same_u32 1 0 a b u v h k.1 e).1 in omega (arith, d))
+once_memory true None (Some y) a b u v h (inr k) e = not_before 1 2 (λ d. omega (arith, d)) a b u v h k e
+once_memory true (Some x) None a b u v (inl h) k e = absurd (let d : 0 ≡ 1 = (same_u32 0 1 a b u v h.1 k e).1 in omega (arith, d))
+once_memory true (Some x) None a b u v (inr h) k e = not_after 1 2 (λ d. omega (arith, d)) a b u v h k e
+once_memory true (Some x) (Some y) a b u v (inl h) (inl k) e = ((same_u32 0 0 a b u v h.1 k.1 e).0, ap Some (h.0 ∙ sym k.0))
+once_memory true (Some x) (Some y) a b u v (inl h) (inr k) e = not_before 0 2 (λ d. omega (arith, d)) a b u v h.1 k e
+once_memory true (Some x) (Some y) a b u v (inr h) (inl k) e = not_after 0 2 (λ d. omega (arith, d)) a b u v h k.1 e
+once_memory true (Some x) (Some y) a b u v (inr h) (inr k) e = same_as (λ d. ap Some d.1) (then_same (same_u32 2 2) (λ d. same_u32 x y)) a b u v h k e
+
+module _ (p : Profile) where
+  offset_same : (d f : SegmentMode) → index_of d ≡ index_of f → Same (SpellsOffset p d) (SpellsOffset p f) (d ≡ f)
+  offset_same Passive Passive i a b u v h k e = (h ∙ sym k, refl)
+  offset_same Passive (Active x c) i a b u v h k e = cc
+  offset_same (Active x c) Passive i a b u v h k e = cc
+  offset_same (Active x c) (Active y d) i a b u v h k e = let index : x ≡ y = cc in same_as (λ r. modes x y c d index r) (once_const p c d) a b u v h k e
+    where
+      modes : (x y : ℕ) (c d : Const) → x ≡ y → c ≡ d → Active x c ≡ Active y d
+      modes x y c d e f = cc
+
+  module _ (d f : SegmentMode) (xs ys : List ℕ) where
+    -- the offset and the functions, with their kind or without it
+    plain_same : index_of d ≡ index_of f → Same (SpellsOffset p d ▸ SpellsList SpellsU32 xs) (SpellsOffset p f ▸ SpellsList SpellsU32 ys) ((d ≡ f) × (xs ≡ ys))
+    plain_same i = then_same (offset_same d f i) (λ e. once_list same_u32 xs ys)
+
+    kinded_same : index_of d ≡ index_of f → Same (SpellsOffset p d ▸ Byte 0x00 ▸ SpellsList SpellsU32 xs) (SpellsOffset p f ▸ Byte 0x00 ▸ SpellsList SpellsU32 ys) ((d ≡ f) × (xs ≡ ys))
+    kinded_same i = then_same (offset_same d f i) (λ e. tagged 0x00 (λ r. r) (once_list same_u32 xs ys))
+
+  elements_same : (flagged : Bool) (d f : SegmentMode) (xs ys : List ℕ) → Same (SpellsElements flagged (index_of d) (SpellsOffset p d) xs) (SpellsElements flagged (index_of f) (SpellsOffset p f) ys) ((d ≡ f) × (xs ≡ ys))
+  elements_same false Passive f xs ys a b u v h k e = absurd h
+  elements_same false (Active x c) Passive xs ys a b u v h k e = absurd k
+  elements_same false (Active x c) (Active y g) xs ys a b u v h k e = same_as (λ r. r.1) (then_same (same_u32 x y) (λ i. plain_same (Active x c) (Active y g) xs ys (ap Some i))) a b u v h k e
+  elements_same true Passive Passive xs ys a b u v h k e = same_as (λ r. r.1) (then_same (same_u32 1 1) (λ i. kinded_same Passive Passive xs ys refl)) a b u v h k e
+  elements_same true Passive (Active y g) xs ys a b u v h (inl k) e = other_number 1 0 (λ i. omega (arith, i)) a b u v h k.1 e
+  elements_same true Passive (Active y g) xs ys a b u v h (inr k) e = other_number 1 2 (λ i. omega (arith, i)) a b u v h k e
+  elements_same true (Active x c) Passive xs ys a b u v (inl h) k e = other_number 0 1 (λ i. omega (arith, i)) a b u v h.1 k e
+  elements_same true (Active x c) Passive xs ys a b u v (inr h) k e = other_number 2 1 (λ i. omega (arith, i)) a b u v h k e
+  elements_same true (Active x c) (Active y g) xs ys a b u v (inl h) (inl k) e =
+      same_as (λ r. r.1) (then_same (same_u32 0 0) (λ i. plain_same (Active x c) (Active y g) xs ys (ap Some (h.0 ∙ sym k.0)))) a b u v h.1 k.1 e
+  elements_same true (Active x c) (Active y g) xs ys a b u v (inl h) (inr k) e = other_number 0 2 (λ i. omega (arith, i)) a b u v h.1 k e
+  elements_same true (Active x c) (Active y g) xs ys a b u v (inr h) (inl k) e = other_number 2 0 (λ i. omega (arith, i)) a b u v h k.1 e
+  elements_same true (Active x c) (Active y g) xs ys a b u v (inr h) (inr k) e =
+      same_as (λ r. r.1.1) (then_same (same_u32 2 2) (λ i. then_same (same_u32 x y) (λ j. kinded_same (Active x c) (Active y g) xs ys (ap Some j)))) a b u v h k e
+
+  once_element : Once (SpellsElement p)
+  once_element d e =
+      same_as (λ r. let all : record { mode = d.mode; functions = d.functions } ≡ record { mode = e.mode; functions = e.functions } = cc (r.0, r.1) in all)
+      (elements_same (has p BulkMemory) d.mode e.mode d.functions e.functions)
+
+  once_segment : Once (SpellsSegment p)
+  once_segment s t =
+      same_as (λ d. let all : record { mode = s.mode; bytes = s.bytes } ≡ record { mode = t.mode; bytes = t.bytes } = cc (d.1.0, d.1.1) in all)
+      (then_same (once_memory (has p BulkMemory) (index_of s.mode) (index_of t.mode)) (λ i. then_same (offset_same s.mode t.mode i) (λ d. once_bytes s.bytes t.bytes)))
 
 pub once_run : (p : Profile) → Once (SpellsRun p)
 once_run p x y a b u v h k e = once_then same_u32 once_type x y a b u v h.1 k.1 e
@@ -228,10 +305,14 @@ record IsSection {X : Type 0} (id : ℕ) (S : X → Form ℕ) (E : X → X → T
   missing : (x y : X) → S x [] → S y [] → E x y
   same : (x y : X) → Same (λ b. S x b × BeginsWith id b) (λ b. S y b × BeginsWith id b) (E x y)
 
--- Sections from this id on, in order, with custom sections: as `IsSection`, and a custom section at the front may be
+-- the id of a section of this rank or a greater one
+abbrev IdFrom : (rank id : ℕ) → Type 0
+IdFrom rank id = (its : ℕ) × (rank ≤ its) × (id ≡ id_at its)
+
+-- Sections from this rank on, in order, with custom sections: as `IsSection`, and a custom section at the front may be
 -- left out.
-record AreSections {X : Type 0} (id : ℕ) (T : X → Form ℕ) (E : X → X → Type 0) : Type 0 where
-  begins : (x : X) (b : List ℕ) → T x b → (b ≡ []) ⊎ ((c : ℕ) × BeginsWith c b × ((c ≡ 0) ⊎ (id ≤ c)))
+record AreSections {X : Type 0} (rank : ℕ) (T : X → Form ℕ) (E : X → X → Type 0) : Type 0 where
+  begins : (x : X) (b : List ℕ) → T x b → (b ≡ []) ⊎ ((c : ℕ) × BeginsWith c b × ((c ≡ 0) ⊎ IdFrom rank c))
   left_out : (x : X) (c : Custom) (a b : List ℕ) → SpellsCustom c a → T x (a ++ b) → T x b
   same : (x y : X) (b : List ℕ) → T x b → T y b → E x y
 
@@ -256,14 +337,26 @@ customs_begin : (customs : List Custom) (b : List ℕ) → Each SpellsCustom cus
 customs_begin [] b h = inl h
 customs_begin (c ∷ customs) b h = let f = section_begins 0 h.0 h.3 in inr (f.0 ++ h.1, h.2 ∙ ap (λ y. y ++ h.1) f.1)
 
-sections_end : (id : ℕ) → AreSections {X = Unit {0}} id (λ x. Customs) (λ x y. Unit {0})
-sections_end id = record {
+sections_end : (rank : ℕ) → AreSections {X = Unit {0}} rank (λ x. Customs) (λ x y. Unit {0})
+sections_end rank = record {
   begins = λ x b h. elim (customs_begin h.0 b h.1) [ inl e ↦ inl e | inr f ↦ inr (0, f, inl refl) ];
   left_out = λ x c a b h k. end_left_out c k.0 a b h k.1;
   same = λ x y b h k. tt;
 }
 
-module _ {X Y : Type 0} {S : X → Form ℕ} {E : X → X → Type 0} {T : Y → Form ℕ} {F : Y → Y → Type 0} (id : ℕ) (positive : 0 < id) (s : IsSection id S E) (t : AreSections (suc id) T F) where
+module _ {X Y : Type 0} {S : X → Form ℕ} {E : X → X → Type 0} {T : Y → Form ℕ} {F : Y → Y → Type 0} (rank : ℕ) (positive : 0 < rank) (s : IsSection (id_at rank) S E) (t : AreSections (suc rank) T F) where
+  abbrev id : ℕ
+  id = id_at rank
+
+  not_zero : 0 ≡ id → ⊥
+  not_zero e = let z : 0 ≡ rank = same_rank 0 rank e in omega (arith, z, positive)
+
+  not_later : (c : ℕ) → c ≡ id → IdFrom (suc rank) c → ⊥
+  not_later c same l = let z : l.0 ≡ rank = same_rank l.0 rank (sym l.2 ∙ same) in let low = l.1 in omega (arith, z, low)
+
+  from_earlier : (c : ℕ) → IdFrom (suc rank) c → IdFrom rank c
+  from_earlier c l = (l.0, (let low = l.1 in omega (arith, low)), l.2)
+
   abbrev Bare : X × Y → Form ℕ
   Bare z = S z.0 ▸ T z.1
 
@@ -285,7 +378,7 @@ module _ {X Y : Type 0} {S : X → Form ℕ} {E : X → X → Type 0} {T : Y →
     | inl e ↦ not_begun id b f e
     | inr g ↦ (
         let same : g.0 ≡ id = first_same g.0 id b b [] [] g.1 f refl in
-        elim g.2 [ inl z ↦ omega (arith, same, z, positive) | inr l ↦ omega (arith, same, l) ])
+        elim g.2 [ inl z ↦ not_zero (sym z ∙ same) | inr l ↦ not_later g.0 same l ])
   ]
 
   bare_same : (z w : X × Y) (b : List ℕ) → Bare z b → Bare w b → Both z w
@@ -306,7 +399,7 @@ module _ {X Y : Type 0} {S : X → Form ℕ} {E : X → X → Type 0} {T : Y →
   bare_left_out : (z : X × Y) (c : Custom) (a b : List ℕ) → SpellsCustom c a → Bare z (a ++ b) → Bare z b
   bare_left_out z c a b h k = elim (s.begins z.0 k.0 k.3) [
     | inl e ↦ ([], b, refl, subst (S z.0) e k.3, t.left_out z.1 c a b h (rest_alone z (a ++ b) k e))
-    | inr f ↦ absurd (let same : 0 ≡ id = first_same 0 id a k.0 b k.1 (section_begins 0 a h) f k.2 in omega (arith, same, positive))
+    | inr f ↦ absurd (not_zero (first_same 0 id a k.0 b k.1 (section_begins 0 a h) f k.2))
   ]
 
   full_left_out : (z : X × Y) (c : Custom) (a b : List ℕ) → SpellsCustom c a → (customs : List Custom) (f r : List ℕ) → Each SpellsCustom customs f → a ++ b ≡ f ++ r → Bare z r → Full z b
@@ -325,22 +418,22 @@ module _ {X Y : Type 0} {S : X → Form ℕ} {E : X → X → Type 0} {T : Y →
       let whole = e ∙ (ap (λ y. y ++ r) g.2 ∙ append_assoc g.0 g.1 r) in
       full_same z w (g.1 ++ r) customs g.1 r g.4 refl h (full_left_out w c g.0 (g.1 ++ r) g.3 k.3.0 k.0 k.1 k.3.1 (sym whole ∙ k.2) k.4)
 
-  bare_begins : (z : X × Y) (b : List ℕ) → Bare z b → (b ≡ []) ⊎ ((c : ℕ) × BeginsWith c b × ((c ≡ 0) ⊎ (id ≤ c)))
+  bare_begins : (z : X × Y) (b : List ℕ) → Bare z b → (b ≡ []) ⊎ ((c : ℕ) × BeginsWith c b × ((c ≡ 0) ⊎ IdFrom rank c))
   bare_begins z b h = elim (s.begins z.0 h.0 h.3) [
     | inl e ↦ elim (t.begins z.1 b (rest_alone z b h e)) [
       | inl f ↦ inl f
-      | inr f ↦ inr (f.0, f.1, elim f.2 [ inl g ↦ inl g | inr g ↦ inr (omega (arith, g)) ])
+      | inr f ↦ inr (f.0, f.1, elim f.2 [ inl g ↦ inl g | inr g ↦ inr (from_earlier f.0 g) ])
     ]
-    | inr e ↦ inr (id, present z b h e, inr (omega arith))
+    | inr e ↦ inr (id, present z b h e, inr (rank, (omega arith), refl))
   ]
 
-  full_begins : (z : X × Y) (b : List ℕ) → Full z b → (b ≡ []) ⊎ ((c : ℕ) × BeginsWith c b × ((c ≡ 0) ⊎ (id ≤ c)))
+  full_begins : (z : X × Y) (b : List ℕ) → Full z b → (b ≡ []) ⊎ ((c : ℕ) × BeginsWith c b × ((c ≡ 0) ⊎ IdFrom rank c))
   full_begins z b h = elim (customs_begin h.3.0 h.0 h.3.1) [
     | inl e ↦ bare_begins z b (subst (Bare z) (sym (h.2 ∙ ap (λ y. y ++ h.1) e)) h.4)
     | inr f ↦ inr (0, (f.0 ++ h.1, h.2 ∙ ap (λ y. y ++ h.1) f.1), inl refl)
   ]
 
-  sections_next : AreSections id Full Both
+  sections_next : AreSections rank Full Both
   sections_next = record {
     begins = full_begins;
     left_out = λ z c a b h k. full_left_out z c a b h k.3.0 k.0 k.1 k.3.1 k.2 k.4;
@@ -397,6 +490,25 @@ start_same (Some x) (Some y) a b u v h k e = same_as (λ d. ap Some (at_once sam
 start_section : IsSection 8 StartSection (λ x y. x ≡ y)
 start_section = record { begins = start_begins; missing = start_missing; same = start_same }
 
+-- the data count section, of which nothing is said
+abbrev Counted : Profile → Bool × ℕ → Form ℕ
+Counted p x = DataCountSection p x.0 x.1
+
+count_begins : (p : Profile) (x : Bool × ℕ) (b : List ℕ) → Counted p x b → (b ≡ []) ⊎ BeginsWith 12 b
+count_begins p x b h = elim h [ inl s ↦ inr (section_begins 12 b s.1) | inr e ↦ inl e.1 ]
+
+count_same : (p : Profile) (x y : Bool × ℕ) → Same (λ b. Counted p x b × BeginsWith 12 b) (λ b. Counted p y b × BeginsWith 12 b) (Unit {0})
+count_same p x y a b u v h k e = elim h.0 [
+  | inl i ↦ elim k.0 [
+    | inl j ↦ same_as (λ d. tt) (section_same 12) a b u v i.1 j.1 e
+    | inr g ↦ absurd (not_begun 12 b k.1 g.1)
+  ]
+  | inr g ↦ absurd (not_begun 12 a h.1 g.1)
+]
+
+count_section : (p : Profile) → IsSection 12 (Counted p) (λ x y. Unit {0})
+count_section p = record { begins = count_begins p; missing = λ x y h k. tt; same = count_same p }
+
 -- a function is its type's index and what stands in its code entry
 function_same : (f g : Function) → f.type_index ≡ g.type_index → body_of f ≡ body_of g → f ≡ g
 function_same f g index code =
@@ -431,22 +543,41 @@ one_under p m n b h k =
     (sections_next 7 (omega arith) (listed 7 once_export)
     (sections_next 8 (omega arith) start_section
     (sections_next 9 (omega arith) (listed 9 (once_element p))
-    (sections_next 10 (omega arith) (listed_of (SpellsBody p) body_of 10 (once_code p))
-    (sections_next 11 (omega arith) (listed 11 (once_segment p))
-    (sections_end 12))))))))))) in
+    (sections_next 10 (omega arith) (count_section p)
+    (sections_next 11 (omega arith) (listed_of (SpellsBody p) body_of 10 (once_code p))
+    (sections_next 12 (omega arith) (listed 11 (once_segment p))
+    (sections_end 13)))))))))))) in
     let u = after_header b h k in
     let e = chain.same
-    (m.types, (m.imports, (m.functions, (m.tables, (m.memories, (m.globals, (m.exports, (m.start, (m.elements, (m.functions, (m.segments, tt)))))))))))
-    (n.types, (n.imports, (n.functions, (n.tables, (n.memories, (n.globals, (n.exports, (n.start, (n.elements, (n.functions, (n.segments, tt)))))))))))
+    (m.types, (m.imports, (m.functions, (m.tables, (m.memories, (m.globals, (m.exports, (m.start, (m.elements, ((bodies_name_segment m.functions, length m.segments), (m.functions, (m.segments, tt))))))))))))
+    (n.types, (n.imports, (n.functions, (n.tables, (n.memories, (n.globals, (n.exports, (n.start, (n.elements, ((bodies_name_segment n.functions, length n.segments), (n.functions, (n.segments, tt))))))))))))
     u.0 u.1 u.2 in
     let e3 = e.1.1 in
     let e6 = e3.1.1.1 in
     let e9 = e6.1.1.1 in
-    let functions : m.functions ≡ n.functions = functions_same m.functions n.functions e3.0 e9.1.0 in
+    let functions : m.functions ≡ n.functions = functions_same m.functions n.functions e3.0 e9.1.1.0 in
     let all : record { types = m.types; imports = m.imports; functions = m.functions; tables = m.tables; memories = m.memories; globals = m.globals; exports = m.exports; start = m.start; elements = m.elements; segments = m.segments }
     ≡ record { types = n.types; imports = n.imports; functions = n.functions; tables = n.tables; memories = n.memories; globals = n.globals; exports = n.exports; start = n.start; elements = n.elements; segments = n.segments }
-    = cc (e.0, e.1.0, functions, e3.1.0, e3.1.1.0, e6.0, e6.1.0, e6.1.1.0, e9.0, e9.1.1.0) in
+    = cc (e.0, e.1.0, functions, e3.1.0, e3.1.1.0, e6.0, e6.1.0, e6.1.1.0, e9.0, e9.1.1.1.0) in
     all
 
-pub one_spelling : (p q : Profile) (m n : Module) (b : List ℕ) → SpellsModule p m b → SpellsModule q n b → m ≡ n
-one_spelling p q m n b h k = one_under every m n b (spells_more p every (every_extends p) m b h) (spells_more q every (every_extends q) n b k)
+-- every feature but the one that changes the front of segments
+abbrev indexed : Profile
+indexed = record { floats = true; sign_extension = true; long_index = true; saturation = true; copies = true; bulk_memory = false }
+
+indexed_extends : (p : Profile) → has p BulkMemory ≡ false → Extends indexed p
+indexed_extends p e Base h = refl
+indexed_extends p e Floats h = refl
+indexed_extends p e SignExtension h = refl
+indexed_extends p e LongIndex h = refl
+indexed_extends p e Saturation h = refl
+indexed_extends p e Copies h = refl
+indexed_extends p e BulkMemory h = sym e ∙ h
+
+pub one_spelling : (p q : Profile) (m n : Module) (b : List ℕ) → ReadSegmentsAlike p q → SpellsModule p m b → SpellsModule q n b → m ≡ n
+one_spelling p q m n b alike h k = by (has p BulkMemory) refl
+  where
+    by : (flagged : Bool) → has p BulkMemory ≡ flagged → m ≡ n
+    by true e = one_under every m n b (spells_more p every (every_extends p) m b (inl e) (inl e) h) (spells_more q every (every_extends q) n b (inl (sym alike ∙ e)) (inl (sym alike ∙ e)) k)
+    by false e = let f : has q BulkMemory ≡ false = sym alike ∙ e in
+        one_under indexed m n b (spells_more p indexed (indexed_extends p e) m b (inl e) (inl e) h) (spells_more q indexed (indexed_extends q f) n b (inl f) (inl f) k)

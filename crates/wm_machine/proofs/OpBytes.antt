@@ -9,6 +9,10 @@ use Rattle.wm_syntax.specs.declared.instructions.Simple.TheVariants as s
 use Rattle.wm_syntax.specs.declared.instructions.Op.{Op}
 use Rattle.wm_syntax.specs.declared.instructions.Op.TheVariants as op
 use Rattle.wm_syntax.specs.declared.instructions.op_class.Immediates.{Immediates}
+use Rattle.wm_syntax.specs.declared.instructions.op_class.MemoryOp.TheVariants as memory
+use Rattle.wm_syntax.specs.declared.instructions.op_class.Indexed.TheVariants as indexed
+use Rattle.wm_syntax.specs.declared.instructions.op_class.LoadOrStore.TheVariants as accesses
+use Rattle.wm_syntax.specs.declared.instructions.op_class.BlockOp.TheVariants as opening
 use Rattle.wm_syntax.specs.declared.instructions.op_class.Immediates.TheVariants as k
 use Rattle.wm_syntax.specs.declared.instructions.op_class.OpClass.{OpClass}
 use Rattle.wm_syntax.specs.declared.instructions.op_class.OpClass.TheVariants.{Plain, With, Float, None}
@@ -63,29 +67,34 @@ of_class p _ h t = tt
 
 -- the code of a class
 kind_code : Immediates → ℕ
-kind_code k.Block = 0x02
-kind_code k.Loop = 0x03
-kind_code k.If = 0x04
-kind_code k.Br = 0x0C
-kind_code k.BrIf = 0x0D
-kind_code k.BrTable = 0x0E
-kind_code k.Call = 0x10
+kind_code (k.Block opening.Block) = 0x02
+kind_code (k.Block opening.Loop) = 0x03
+kind_code (k.Block opening.If) = 0x04
+kind_code (k.Index indexed.Br) = 0x0C
+kind_code (k.Index indexed.BrIf) = 0x0D
+kind_code (k.Index indexed.BrTable) = 0x0E
+kind_code (k.Index indexed.Call) = 0x10
 kind_code k.CallIndirect = 0x11
-kind_code k.LocalGet = 0x20
-kind_code k.LocalSet = 0x21
-kind_code k.LocalTee = 0x22
-kind_code k.GlobalGet = 0x23
-kind_code k.GlobalSet = 0x24
-kind_code k.MemorySize = 0x3F
-kind_code k.MemoryGrow = 0x40
-kind_code k.MemoryCopy = 0x10A
-kind_code k.MemoryFill = 0x10B
+kind_code (k.Index indexed.LocalGet) = 0x20
+kind_code (k.Index indexed.LocalSet) = 0x21
+kind_code (k.Index indexed.LocalTee) = 0x22
+kind_code (k.Index indexed.GlobalGet) = 0x23
+kind_code (k.Index indexed.GlobalSet) = 0x24
+kind_code (k.Memory memory.MemorySize) = 0x3F
+kind_code (k.Memory memory.MemoryGrow) = 0x40
+kind_code (k.Memory memory.MemoryCopy) = 0x10A
+kind_code (k.Memory memory.MemoryFill) = 0x10B
+kind_code k.MemoryInit = 0x108
+kind_code (k.Index indexed.DataDrop) = 0x109
+kind_code k.TableInit = 0x10C
+kind_code (k.Index indexed.ElemDrop) = 0x10D
+kind_code k.TableCopy = 0x10E
 kind_code k.I32Const = 0x41
 kind_code k.I64Const = 0x42
 kind_code k.F32Const = 0x43
 kind_code k.F64Const = 0x44
-kind_code (k.Load o) = (load o).byte
-kind_code (k.Store o) = (store o).byte
+kind_code (k.Access (accesses.Load o)) = (load o).byte
+kind_code (k.Access (accesses.Store o)) = (store o).byte
 
 class_code : OpClass → Option ℕ
 class_code (Plain o) = code o

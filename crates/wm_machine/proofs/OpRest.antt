@@ -1,5 +1,5 @@
 -- The possible rest of an op, and how each byte continues it.
-use Rattle.std.proofs.Common.{◌≡◌, ◌⊎◌, IsTrue, ℕ, zero, suc, nat_lt, ◌+◌, ◌-◌, ◌<◌, ◌≤◌, ◌^◌, ◌↔◌, Result, Ok, Err, List, [], ◌∷◌, ◌++◌, Option, Some, ℤ, refl, sym, ap, ◌∙◌, subst, arith, inl, inr, nat_eq}
+use Rattle.std.proofs.Common.{◌≡◌, ◌⊎◌, IsTrue, ℕ, zero, suc, nat_lt, ◌+◌, ◌-◌, ◌<◌, ◌≤◌, ◌^◌, ◌↔◌, Result, Ok, Err, List, [], ◌∷◌, ◌++◌, Option, Some, ℤ, refl, sym, ap, ◌∙◌, subst, arith, inl, inr, nat_eq, append-nil}
 use Rattle.std.specs.Prelude.{None as Nothing}
 use Rattle.std.proofs.lemmas.Bool.{cond_both, eqb-true, eqb-false, ltb-true, ltb-false}
 use Rattle.wm_syntax.specs.declared.profile.Profile.{Profile}
@@ -21,7 +21,7 @@ use Rattle.wm_syntax.specs.declared.numbers.Step.TheVariants as step
 use Rattle.wm_syntax.specs.inner.Numbers.{Partial, SignedRest}
 use Rattle.wm_syntax.specs.exact.Reading.{fresh, unsigned_push, signed_push}
 use Rattle.wm_syntax.specs.Leb128.{Signed, Unsigned}
-use Rattle.wm_syntax.specs.Spelling.{Form, Byte, ◌▸◌}
+use Rattle.wm_syntax.specs.Spelling.{Form, Byte, Exactly, ◌▸◌}
 use Rattle.wm_syntax.specs.Types.{SpellsU32, SpellsBlockType, block_byte, type_byte}
 use Rattle.wm_syntax.specs.exact.ByteTable.{class_feature, class_under}
 use Rattle.wm_syntax.specs.OpClasses.{IsClassOfOp, class_of, code}
@@ -34,17 +34,20 @@ use Rattle.wm_syntax.proofs.OpTable.{has_class}
 use Rattle.wm_syntax.proofs.FirstBytes.{behind_small, begins_under, found_under, prefix_of}
 use Rattle.wm_machine.specs.declared.step.reading.Reading.{Reading}
 use Rattle.wm_machine.specs.declared.step.reading.Reading.TheVariants.{More, Done, Bad}
-use Rattle.wm_machine.specs.declared.step.ops.BlockOp.{BlockOp}
-use Rattle.wm_machine.specs.declared.step.ops.BlockOp.TheVariants as opening
-use Rattle.wm_machine.specs.declared.step.ops.Indexed.{Indexed}
-use Rattle.wm_machine.specs.declared.step.ops.Indexed.TheVariants as indexed
-use Rattle.wm_machine.specs.declared.step.ops.MemoryOp.{MemoryOp}
-use Rattle.wm_machine.specs.declared.step.ops.MemoryOp.TheVariants as memory
-use Rattle.wm_machine.specs.declared.step.ops.LoadOrStore.{LoadOrStore}
-use Rattle.wm_machine.specs.declared.step.ops.LoadOrStore.TheVariants as accesses
+use Rattle.wm_syntax.specs.declared.instructions.op_class.BlockOp.{BlockOp}
+use Rattle.wm_syntax.specs.declared.instructions.op_class.BlockOp.TheVariants as opening
+use Rattle.wm_syntax.specs.declared.instructions.op_class.Indexed.{Indexed}
+use Rattle.wm_syntax.specs.declared.instructions.op_class.Indexed.TheVariants as indexed
+use Rattle.wm_syntax.specs.declared.instructions.op_class.MemoryOp.{MemoryOp}
+use Rattle.wm_syntax.specs.declared.instructions.op_class.MemoryOp.TheVariants as memory
+use Rattle.wm_syntax.specs.declared.instructions.op_class.LoadOrStore.{LoadOrStore}
+use Rattle.wm_syntax.specs.declared.instructions.op_class.LoadOrStore.TheVariants as accesses
+use Rattle.wm_machine.specs.declared.step.ops.TableOp.{TableOp}
+use Rattle.wm_machine.specs.declared.step.ops.TableOp.TheVariants as table
 use Rattle.wm_machine.specs.declared.step.ops.InOp.{InOp}
 use Rattle.wm_machine.specs.declared.step.ops.InOp.TheVariants as at
-use Rattle.wm_machine.specs.exact.OpSteps.{block_op, index_op, call_op, memory_op, const_32_op, const_64_op, float_32_op, float_64_op, pushed, float_32_step, float_64_step, access_op, on_answer, immediates, class_step, prefix_step, begin_step, behind_step, padded, code_step, more_padding, padding_step, block_step, first_zero_step, closing_step, long_step, table_step, op_push}
+use Rattle.wm_machine.specs.exact.OpSteps.{call_op, init_op, init_table_op, copy_table_op, table_feature, after_table, const_32_op, const_64_op, float_32_op, float_64_op, pushed, float_32_step, float_64_step, on_answer, immediates, class_step, prefix_step, begin_step, behind_step, padded, code_step, more_padding, padding_step, block_step, first_zero_step, closing_step, long_step, table_step, op_push}
+use Rattle.wm_syntax.specs.exact.OpShapes.{block_op, index_op, memory_op, access_op}
 use Rattle.wm_machine.specs.exact.ValueSteps.{read_type, value_type_of}
 use Rattle.wm_machine.specs.exact.Readings.{Goes}
 use Rattle.wm_machine.specs.Sections.{Those}
@@ -55,8 +58,8 @@ use Rattle.wm_machine.proofs.ValueBytes.{TypeAnswer, type_answer}
 use Rattle.wm_machine.proofs.FloatBytes.{FloatRest, float_some, float_32_left, float_64_left, left_float_32, left_float_64}
 use Rattle.wm_machine.proofs.OpBytes.{AfterCode, NoLabel, HasImmediates, HasOpType, code_first, coded_named, from_code, has_first, no_label, nothing_after, of_class, one_code, op_some, plain_same}
 use Rattle.std.specs.Prelude.{IsFalse}
-use Rattle.wm_syntax.specs.declared.profile.Feature.TheVariants.{LongIndex}
-use Rattle.wm_machine.proofs.TableIndex.{TableRest, Zeros, no_zeros, not_both, one_zero, spelled_zeros, table_begun, table_ended, table_whole, table_zeros, zeros_ended, zeros_nil, zeros_off, zeros_on, zeros_spell}
+use Rattle.wm_syntax.specs.declared.profile.Feature.TheVariants.{BulkMemory, LongIndex}
+use Rattle.wm_machine.proofs.TableIndex.{TableRest, Zeros, index_begun, index_whole, no_zeros, not_both, one_zero, spelled_zeros, table_begun, table_ended, table_whole, table_zeros, zeros_ended, zeros_nil, zeros_off, zeros_on, zeros_spell}
 
 -- the op that a value makes
 abbrev pub Makes : {T : Type 0} → (T → Op) → (T → Form ℕ) → Op → Form ℕ
@@ -70,9 +73,27 @@ Leads {T} rest then o b = (v : T) × (front back : List ℕ) × (b ≡ front ++ 
 abbrev pub Closed : Op → Op → Form ℕ
 Closed f o b = (o ≡ f) × Byte 0x00 b
 
--- this op, and the rest of its table index
-abbrev pub Tabled : Profile → Op → ℕ → Op → Form ℕ
-Tabled p f left o b = (o ≡ f) × TableRest p left b
+-- the op with a table index
+abbrev pub table_op : TableOp → Op
+table_op (table.Call n) = call_op n
+table_op (table.Init n) = init_table_op n
+table_op table.CopyTo = copy_table_op
+table_op table.CopyFrom = copy_table_op
+
+-- what follows a table index: another one, or nothing
+abbrev pub AfterTable : Profile → TableOp → Form ℕ
+AfterTable p table.CopyTo = TableRest p BulkMemory 4 ▸ Exactly []
+AfterTable p t = Exactly []
+
+-- an op, the rest of its table index, and what follows this
+abbrev pub Tabled : Profile → TableOp → ℕ → Op → Form ℕ
+Tabled p t left o b = (o ≡ table_op t) × (TableRest p (table_feature t) left ▸ AfterTable p t) b
+
+pub after_comes : (p : Profile) (t : TableOp) → (b : List ℕ) × AfterTable p t b
+after_comes p (table.Call n) = ([], refl)
+after_comes p (table.Init n) = ([], refl)
+after_comes p table.CopyTo = (0 ∷ [], (0 ∷ [], [], refl, inl refl, refl))
+after_comes p table.CopyFrom = ([], refl)
 
 -- the rest of an op of the profile behind its code
 abbrev pub Coded : Profile → ℕ → Op → Form ℕ
@@ -84,7 +105,7 @@ Numbered p P n o b = (front back : List ℕ) × (b ≡ front ++ back) × P front
 
 -- memory.copy, and two bytes 00
 abbrev pub Copied : Op → Form ℕ
-Copied o b = (o ≡ memory_op memory.Copy) × (Byte 0x00 ▸ Byte 0x00) b
+Copied o b = (o ≡ memory_op memory.MemoryCopy) × (Byte 0x00 ▸ Byte 0x00) b
 
 abbrev pub at_offset : LoadOrStore → ℕ → ℕ → Op
 at_offset a align offset = access_op a (record { align = align; offset = offset })
@@ -96,8 +117,11 @@ op_rest p at.Code o b = (n : ℕ) × Numbered p (SpellsU32 n) n o b
 op_rest p (at.Padding n left) o b = Numbered p (Zeros left) n o b
 op_rest p (at.BlockType i) o b = Makes (block_op i) (Those (HasBlockType p) SpellsBlockType) o b
 op_rest p (at.Index i r) o b = Makes (index_op i) (Left r) o b
-op_rest p (at.CallType r) o b = Leads (Left r) (λ n. Tabled p (call_op n) 4) o b
-op_rest p (at.CallTable n left) o b = Tabled p (call_op n) left o b
+op_rest p (at.CallType r) o b = Leads (Left r) (λ n. Tabled p (table.Call n) 4) o b
+op_rest p (at.Table t left) o b = Tabled p t left o b
+op_rest p (at.InitElement r) o b = Leads (Left r) (λ n. Tabled p (table.Init n) 4) o b
+op_rest p (at.InitSegment r) o b = Leads (Left r) (λ n. Closed (init_op n)) o b
+op_rest p (at.InitMemory n) o b = Closed (init_op n) o b
 op_rest p at.FirstZero o b = Copied o b
 op_rest p (at.Memory m) o b = Closed (memory_op m) o b
 op_rest p (at.Const32 r) o b = Makes const_32_op (SignedRest 32 r) o b
@@ -183,35 +207,59 @@ module _ (p : Profile) where
       ))
       (λ z. (λ h. eqb-false c 0x00 z (head_same c 0x00 b h.1.1 (h.1.2 ∙ ap (λ y. y ++ h.1.1) h.1.3)), λ e. absurd e))
 
-  -- the table index
-  module _ (n c : ℕ) (other : c ≡ 0 → ⊥) (long : IsTrue (has p LongIndex)) (o : Op) (b : List ℕ) where
+  -- a table index, and what follows it
+  after_law : (t : TableOp) (o : Op) (b : List ℕ) → ((o ≡ table_op t) × AfterTable p t b) ↔ Goes (op_rest p) (after_table t) o b
+  after_law (table.Call n) o b = (λ h. h, λ g. g)
+  after_law (table.Init n) o b = (λ h. h, λ g. g)
+  after_law table.CopyTo o b = (λ h. h, λ g. g)
+  after_law table.CopyFrom o b = (λ h. h, λ g. g)
+
+  module _ (t : TableOp) (c : ℕ) (o : Op) (b : List ℕ) where
+    abbrev IndexRest : ℕ → Form ℕ
+    IndexRest = TableRest p (table_feature t)
+
     abbrev TableGoes : ℕ → Reading InOp Op → Type 0
-    TableGoes left a = Tabled p (call_op n) left o (c ∷ b) ↔ Goes (op_rest p) a o b
+    TableGoes left a = Tabled p t left o (c ∷ b) ↔ Goes (op_rest p) a o b
 
-    none_left : TableRest p zero (c ∷ b) → ⊥
-    none_left (inl e) = other (head_same c 0 b [] e)
-    none_left (inr h) = no_zeros c b other h.1
+    -- its first byte is c
+    index_first : (left : ℕ) (front back : List ℕ) → c ∷ b ≡ front ++ back → IndexRest left front → (f : List ℕ) × (b ≡ f ++ back) × IndexRest left (c ∷ f)
+    index_first left [] back e z = absurd (zeros_nil left (table_zeros p (table_feature t) left [] z))
+    index_first left (d ∷ f) back e z =
+        (f, tail_same c d b (f ++ back) e, subst (λ y. IndexRest left (y ∷ f)) (sym (head_same c d b (f ++ back) e)) z)
 
-    one_off : (left : ℕ) → TableRest p (suc left) (c ∷ b) → (c ≡ 0x80) × Zeros left b
-    one_off left (inl e) = absurd (other (head_same c 0 b [] e))
-    one_off left (inr h) = zeros_off left c b other h.1
+    none_left : (f : List ℕ) → (c ≡ 0 → ⊥) → IndexRest zero (c ∷ f) → ⊥
+    none_left f other (inl e) = other (head_same c 0 f [] e)
+    none_left f other (inr h) = no_zeros c f other h.1
 
-    long_law : (left : ℕ) → TableGoes left (long_step n left c)
-    long_law zero = (λ h. none_left h.1, λ e. absurd e)
-    long_law (suc left) = cond_both (nat_eq c 0x80) _ _ (TableGoes (suc left))
-        (λ z. (λ h. (h.0, inr (long, (one_off left h.1).1)), λ g. (g.0, inr (long, zeros_on left c b (eqb-true c 0x80 z) (table_zeros p left b g.1)))))
-        (λ z. (λ h. eqb-false c 0x80 z (one_off left h.1).0, λ e. absurd e))
+    one_off : (left : ℕ) (f : List ℕ) → (c ≡ 0 → ⊥) → IndexRest (suc left) (c ∷ f) → (c ≡ 0x80) × Zeros left f
+    one_off left f other (inl e) = absurd (other (head_same c 0 f [] e))
+    one_off left f other (inr h) = zeros_off left c f other h.1
 
-  short_only : (left c : ℕ) (b : List ℕ) → (c ≡ 0 → ⊥) → IsFalse (has p LongIndex) → TableRest p left (c ∷ b) → ⊥
-  short_only left c b other k (inl e) = other (head_same c 0 b [] e)
-  short_only left c b other k (inr h) = not_both (has p LongIndex) h.0 k
+    long_law : (c ≡ 0 → ⊥) → IsTrue (has p (table_feature t)) → (left : ℕ) → TableGoes left (long_step t left c)
+    long_law other long zero = ((λ h. let f = index_first zero h.1.0 h.1.1 h.1.2 h.1.3 in none_left f.0 other f.2), λ e. absurd e)
+    long_law other long (suc left) = cond_both (nat_eq c 0x80) _ _ (TableGoes (suc left))
+        (λ z. (
+          (λ h. let f = index_first (suc left) h.1.0 h.1.1 h.1.2 h.1.3 in (h.0, (f.0, h.1.1, f.1, inr (long, (one_off left f.0 other f.2).1), h.1.4))),
+          (λ g. (g.0, (c ∷ g.1.0, g.1.1, ap (λ y. c ∷ y) g.1.2, inr (long, zeros_on left c g.1.0 (eqb-true c 0x80 z) (table_zeros p (table_feature t) left g.1.0 g.1.3)), g.1.4))),
+        ))
+        (λ z. ((λ h. let f = index_first (suc left) h.1.0 h.1.1 h.1.2 h.1.3 in eqb-false c 0x80 z (one_off left f.0 other f.2).0), λ e. absurd e))
 
-  table_law : (n left c : ℕ) → Law (Tabled p (call_op n) left) c (table_step p n left c)
-  table_law n left c o b =
-      let P : Reading InOp Op → Type 0 = λ a. Tabled p (call_op n) left o (c ∷ b) ↔ Goes (op_rest p) a o b in
-      cond_both (nat_eq c 0x00) _ _ P
-      (λ z. (λ h. (h.0, table_ended p left c b (eqb-true c 0x00 z) h.1), λ g. (g.0, inl (ap (λ y. c ∷ y) g.1 ∙ ap (λ y. y ∷ []) (eqb-true c 0x00 z)))))
-      (λ z. cond_both (has p LongIndex) _ _ P (λ y. long_law n c (eqb-false c 0x00 z) y o b left) (λ k. (λ h. short_only left c b (eqb-false c 0x00 z) k h.1, λ e. absurd e)))
+    short_only : (left : ℕ) (f : List ℕ) → (c ≡ 0 → ⊥) → IsFalse (has p (table_feature t)) → IndexRest left (c ∷ f) → ⊥
+    short_only left f other k (inl e) = other (head_same c 0 f [] e)
+    short_only left f other k (inr h) = not_both (has p (table_feature t)) h.0 k
+
+    table_law : (left : ℕ) → TableGoes left (table_step p t left c)
+    table_law left = cond_both (nat_eq c 0x00) _ _ (TableGoes left)
+        (λ z. (
+          (λ h.
+              let f = index_first left h.1.0 h.1.1 h.1.2 h.1.3 in
+              let ended : f.0 ≡ [] = table_ended p (table_feature t) left c f.0 (eqb-true c 0x00 z) f.2 in
+              (after_law t o b).0 (h.0, subst (AfterTable p t) (sym (f.1 ∙ ap (λ y. y ++ h.1.1) ended)) h.1.4)),
+          (λ g. let k = (after_law t o b).1 g in (k.0, (c ∷ [], b, refl, inl (ap (λ y. y ∷ []) (eqb-true c 0x00 z)), k.1))),
+        ))
+        (λ z. cond_both (has p (table_feature t)) _ _ (TableGoes left)
+        (λ y. long_law (eqb-false c 0x00 z) y left)
+        (λ k. ((λ h. let f = index_first left h.1.0 h.1.1 h.1.2 h.1.3 in short_only left f.0 (eqb-false c 0x00 z) k f.2), λ e. absurd e)))
 
   -- block types
   block_spelled : (t : Option ValType) (c : ℕ) (b : List ℕ) → SpellsBlockType t (c ∷ b) → (c ≡ block_byte t) × (b ≡ [])
@@ -267,30 +315,44 @@ module _ (p : Profile) where
   abbrev Starts : Op → List ℕ → Type 0
   Starts o b = Goes (op_rest p) (class_step (class_of o)) o b
 
-  simple_starts : (i : Simple) (b : List ℕ) → SpellsImmediates p i b → Starts (op.Simple i) b
-  simple_starts (s.Br n) b u = (n, refl, (fresh_number n b).0 u)
-  simple_starts (s.BrIf n) b u = (n, refl, (fresh_number n b).0 u)
-  simple_starts (s.Call n) b u = (n, refl, (fresh_number n b).0 u)
-  simple_starts (s.CallIndirect n) b (front, back, e, u, z) = (n, front, back, e, (fresh_number n front).0 u, (refl, table_begun p back z))
-  simple_starts (s.LocalGet n) b u = (n, refl, (fresh_number n b).0 u)
-  simple_starts (s.LocalSet n) b u = (n, refl, (fresh_number n b).0 u)
-  simple_starts (s.LocalTee n) b u = (n, refl, (fresh_number n b).0 u)
-  simple_starts (s.GlobalGet n) b u = (n, refl, (fresh_number n b).0 u)
-  simple_starts (s.GlobalSet n) b u = (n, refl, (fresh_number n b).0 u)
-  simple_starts s.MemorySize b u = (refl, u)
-  simple_starts s.MemoryGrow b u = (refl, u)
-  simple_starts s.MemoryCopy b u = (refl, u)
-  simple_starts s.MemoryFill b u = (refl, u)
-  simple_starts (s.I32Const z) b u = (z, refl, signed_left 32 above z b u)
-  simple_starts (s.I64Const z) b u = (z, refl, signed_left 64 above_64 z b u)
-  simple_starts (s.F32Const n) b u = (n, refl, float_32_left n b u)
-  simple_starts (s.F64Const n) b u = (n, refl, float_64_left n b u)
-  simple_starts (s.Load o m) b (front, back, e, u, v) = (m.align, front, back, e, (fresh_number m.align front).0 u, (m.offset, refl, (fresh_number m.offset back).0 v))
-  simple_starts (s.Store o m) b (front, back, e, u, v) = (m.align, front, back, e, (fresh_number m.align front).0 u, (m.offset, refl, (fresh_number m.offset back).0 v))
-  simple_starts _ b u = (refl, u)
+  -- a table index with nothing behind it
+  alone : (P : Form ℕ) (b : List ℕ) → P b → (P ▸ Exactly []) b
+  alone P b h = (b, [], sym (append-nil b), h, refl)
+
+  first_alone : (P : Form ℕ) (b : List ℕ) → (P ▸ Exactly []) b → P b
+  first_alone P b h = subst P (sym (h.2 ∙ ap (λ y. h.0 ++ y) h.4 ∙ append-nil h.0)) h.3
+
+  simple_starts : (i : Simple) (b : List ℕ) → IsOpOf p (op.Simple i) → SpellsImmediates p i b → Starts (op.Simple i) b
+  simple_starts (s.Br n) b y u = (n, refl, (fresh_number n b).0 u)
+  simple_starts (s.BrIf n) b y u = (n, refl, (fresh_number n b).0 u)
+  simple_starts (s.Call n) b y u = (n, refl, (fresh_number n b).0 u)
+  simple_starts (s.CallIndirect n) b y (front, back, e, u, z) = (n, front, back, e, (fresh_number n front).0 u, (refl, alone (TableRest p LongIndex 4) back (table_begun p back z)))
+  simple_starts (s.LocalGet n) b y u = (n, refl, (fresh_number n b).0 u)
+  simple_starts (s.LocalSet n) b y u = (n, refl, (fresh_number n b).0 u)
+  simple_starts (s.LocalTee n) b y u = (n, refl, (fresh_number n b).0 u)
+  simple_starts (s.GlobalGet n) b y u = (n, refl, (fresh_number n b).0 u)
+  simple_starts (s.GlobalSet n) b y u = (n, refl, (fresh_number n b).0 u)
+  simple_starts s.MemorySize b y u = (refl, u)
+  simple_starts s.MemoryGrow b y u = (refl, u)
+  simple_starts (s.MemoryInit n) b y (front, back, e, u, z) = (n, front, back, e, (fresh_number n front).0 u, (refl, z))
+  simple_starts (s.DataDrop n) b y u = (n, refl, (fresh_number n b).0 u)
+  simple_starts (s.TableInit n) b y (front, back, e, u, z) =
+      (n, front, back, e, (fresh_number n front).0 u, (refl, alone (TableRest p BulkMemory 4) back (index_begun p BulkMemory y back z)))
+  simple_starts (s.ElemDrop n) b y u = (n, refl, (fresh_number n b).0 u)
+  simple_starts s.TableCopy b y (front, back, e, u, z) =
+      (refl, (front, back, e, index_begun p BulkMemory y front u, alone (TableRest p BulkMemory 4) back (index_begun p BulkMemory y back z)))
+  simple_starts s.MemoryCopy b y u = (refl, u)
+  simple_starts s.MemoryFill b y u = (refl, u)
+  simple_starts (s.I32Const z) b y u = (z, refl, signed_left 32 above z b u)
+  simple_starts (s.I64Const z) b y u = (z, refl, signed_left 64 above_64 z b u)
+  simple_starts (s.F32Const n) b y u = (n, refl, float_32_left n b u)
+  simple_starts (s.F64Const n) b y u = (n, refl, float_64_left n b u)
+  simple_starts (s.Load o m) b y (front, back, e, u, v) = (m.align, front, back, e, (fresh_number m.align front).0 u, (m.offset, refl, (fresh_number m.offset back).0 v))
+  simple_starts (s.Store o m) b y (front, back, e, u, v) = (m.align, front, back, e, (fresh_number m.align front).0 u, (m.offset, refl, (fresh_number m.offset back).0 v))
+  simple_starts _ b y u = (refl, u)
 
   starts : (o : Op) (b : List ℕ) → NoLabel o → IsOpOf p o → AfterCode p o b → Starts o b
-  starts (op.Simple i) b n g u = simple_starts i b u
+  starts (op.Simple i) b n g u = simple_starts i b g u
   starts (op.Block t) b n g u = (t, refl, (g, u))
   starts (op.Loop t) b n g u = (t, refl, (g, u))
   starts (op.If t) b n g u = (t, refl, (g, u))
@@ -320,33 +382,46 @@ module _ (p : Profile) where
         subst (λ y. IsWhole kind y b) (sym i.1) (class n i.0, type n i.0, whole n i.0 m.1 m.2 m.3 m.4 i.2)
 
   whole : (kind : Immediates) (o : Op) (b : List ℕ) → op_rest p (immediates kind) o b → IsWhole kind o b
-  whole k.Block o b h = made k.Block o b (block_op opening.Block) (Those (HasBlockType p) SpellsBlockType) (λ t u. (refl, u.0, u.1)) h
-  whole k.Loop o b h = made k.Loop o b (block_op opening.Loop) (Those (HasBlockType p) SpellsBlockType) (λ t u. (refl, u.0, u.1)) h
-  whole k.If o b h = made k.If o b (block_op opening.If) (Those (HasBlockType p) SpellsBlockType) (λ t u. (refl, u.0, u.1)) h
-  whole k.Br o b h = made k.Br o b (index_op indexed.Br) (Left fresh) (λ n u. (refl, tt, (fresh_number n b).1 u)) h
-  whole k.BrIf o b h = made k.BrIf o b (index_op indexed.BrIf) (Left fresh) (λ n u. (refl, tt, (fresh_number n b).1 u)) h
-  whole k.BrTable o b h = made k.BrTable o b (index_op indexed.BrTable) (Left fresh) (λ n u. (refl, tt, (fresh_number n b).1 u)) h
-  whole k.Call o b h = made k.Call o b (index_op indexed.Call) (Left fresh) (λ n u. (refl, tt, (fresh_number n b).1 u)) h
+  whole (k.Block opening.Block) o b h = made (k.Block opening.Block) o b (block_op opening.Block) (Those (HasBlockType p) SpellsBlockType) (λ t u. (refl, u.0, u.1)) h
+  whole (k.Block opening.Loop) o b h = made (k.Block opening.Loop) o b (block_op opening.Loop) (Those (HasBlockType p) SpellsBlockType) (λ t u. (refl, u.0, u.1)) h
+  whole (k.Block opening.If) o b h = made (k.Block opening.If) o b (block_op opening.If) (Those (HasBlockType p) SpellsBlockType) (λ t u. (refl, u.0, u.1)) h
+  whole (k.Index indexed.Br) o b h = made (k.Index indexed.Br) o b (index_op indexed.Br) (Left fresh) (λ n u. (refl, tt, (fresh_number n b).1 u)) h
+  whole (k.Index indexed.BrIf) o b h = made (k.Index indexed.BrIf) o b (index_op indexed.BrIf) (Left fresh) (λ n u. (refl, tt, (fresh_number n b).1 u)) h
+  whole (k.Index indexed.BrTable) o b h = made (k.Index indexed.BrTable) o b (index_op indexed.BrTable) (Left fresh) (λ n u. (refl, tt, (fresh_number n b).1 u)) h
+  whole (k.Index indexed.Call) o b h = made (k.Index indexed.Call) o b (index_op indexed.Call) (Left fresh) (λ n u. (refl, tt, (fresh_number n b).1 u)) h
+  whole (k.Index indexed.LocalGet) o b h = made (k.Index indexed.LocalGet) o b (index_op indexed.LocalGet) (Left fresh) (λ n u. (refl, tt, (fresh_number n b).1 u)) h
+  whole (k.Index indexed.LocalSet) o b h = made (k.Index indexed.LocalSet) o b (index_op indexed.LocalSet) (Left fresh) (λ n u. (refl, tt, (fresh_number n b).1 u)) h
+  whole (k.Index indexed.LocalTee) o b h = made (k.Index indexed.LocalTee) o b (index_op indexed.LocalTee) (Left fresh) (λ n u. (refl, tt, (fresh_number n b).1 u)) h
+  whole (k.Index indexed.GlobalGet) o b h = made (k.Index indexed.GlobalGet) o b (index_op indexed.GlobalGet) (Left fresh) (λ n u. (refl, tt, (fresh_number n b).1 u)) h
+  whole (k.Index indexed.GlobalSet) o b h = made (k.Index indexed.GlobalSet) o b (index_op indexed.GlobalSet) (Left fresh) (λ n u. (refl, tt, (fresh_number n b).1 u)) h
   whole k.CallIndirect o b h =
       let n : ℕ = h.0 in
       let c = h.5 in
-      subst (λ y. IsWhole k.CallIndirect y b) (sym c.0) (refl, tt, (h.1, h.2, h.3, (fresh_number n h.1).1 h.4, table_whole p h.2 c.1))
-  whole k.LocalGet o b h = made k.LocalGet o b (index_op indexed.LocalGet) (Left fresh) (λ n u. (refl, tt, (fresh_number n b).1 u)) h
-  whole k.LocalSet o b h = made k.LocalSet o b (index_op indexed.LocalSet) (Left fresh) (λ n u. (refl, tt, (fresh_number n b).1 u)) h
-  whole k.LocalTee o b h = made k.LocalTee o b (index_op indexed.LocalTee) (Left fresh) (λ n u. (refl, tt, (fresh_number n b).1 u)) h
-  whole k.GlobalGet o b h = made k.GlobalGet o b (index_op indexed.GlobalGet) (Left fresh) (λ n u. (refl, tt, (fresh_number n b).1 u)) h
-  whole k.GlobalSet o b h = made k.GlobalSet o b (index_op indexed.GlobalSet) (Left fresh) (λ n u. (refl, tt, (fresh_number n b).1 u)) h
-  whole k.MemorySize o b h = subst (λ y. IsWhole k.MemorySize y b) (sym h.0) (refl, tt, h.1)
-  whole k.MemoryGrow o b h = subst (λ y. IsWhole k.MemoryGrow y b) (sym h.0) (refl, tt, h.1)
-  whole k.MemoryCopy o b h = subst (λ y. IsWhole k.MemoryCopy y b) (sym h.0) (refl, tt, h.1)
-  whole k.MemoryFill o b h = subst (λ y. IsWhole k.MemoryFill y b) (sym h.0) (refl, tt, h.1)
+      subst (λ y. IsWhole k.CallIndirect y b) (sym c.0) (refl, tt, (h.1, h.2, h.3, (fresh_number n h.1).1 h.4, table_whole p h.2 (first_alone (TableRest p LongIndex 4) h.2 c.1)))
+  whole (k.Index indexed.DataDrop) o b h = made (k.Index indexed.DataDrop) o b (index_op indexed.DataDrop) (Left fresh) (λ n u. (refl, tt, (fresh_number n b).1 u)) h
+  whole (k.Index indexed.ElemDrop) o b h = made (k.Index indexed.ElemDrop) o b (index_op indexed.ElemDrop) (Left fresh) (λ n u. (refl, tt, (fresh_number n b).1 u)) h
+  whole k.TableInit o b h =
+      let n : ℕ = h.0 in
+      let c = h.5 in
+      subst (λ y. IsWhole k.TableInit y b) (sym c.0) (refl, tt, (h.1, h.2, h.3, (fresh_number n h.1).1 h.4, index_whole p BulkMemory h.2 (first_alone (TableRest p BulkMemory 4) h.2 c.1)))
+  whole k.TableCopy o b h =
+      let c = h.1 in
+      subst (λ y. IsWhole k.TableCopy y b) (sym h.0) (refl, tt, (c.0, c.1, c.2, index_whole p BulkMemory c.0 c.3, index_whole p BulkMemory c.1 (first_alone (TableRest p BulkMemory 4) c.1 c.4)))
+  whole k.MemoryInit o b h =
+      let n : ℕ = h.0 in
+      let c = h.5 in
+      subst (λ y. IsWhole k.MemoryInit y b) (sym c.0) (refl, tt, (h.1, h.2, h.3, (fresh_number n h.1).1 h.4, c.1))
+  whole (k.Memory memory.MemorySize) o b h = subst (λ y. IsWhole (k.Memory memory.MemorySize) y b) (sym h.0) (refl, tt, h.1)
+  whole (k.Memory memory.MemoryGrow) o b h = subst (λ y. IsWhole (k.Memory memory.MemoryGrow) y b) (sym h.0) (refl, tt, h.1)
+  whole (k.Memory memory.MemoryCopy) o b h = subst (λ y. IsWhole (k.Memory memory.MemoryCopy) y b) (sym h.0) (refl, tt, h.1)
+  whole (k.Memory memory.MemoryFill) o b h = subst (λ y. IsWhole (k.Memory memory.MemoryFill) y b) (sym h.0) (refl, tt, h.1)
   whole k.I32Const o b h = made k.I32Const o b const_32_op (SignedRest 32 fresh) (λ z u. (refl, tt, left_signed 32 above z b u)) h
   whole k.I64Const o b h = made k.I64Const o b const_64_op (SignedRest 64 fresh) (λ z u. (refl, tt, left_signed 64 above_64 z b u)) h
   whole k.F32Const o b h = made k.F32Const o b float_32_op (FloatRest (2 ^ 24) 3 0) (λ n u. (refl, tt, left_float_32 n b u)) h
   whole k.F64Const o b h = made k.F64Const o b float_64_op (FloatRest (2 ^ 56) 7 0) (λ n u. (refl, tt, left_float_64 n b u)) h
-  whole (k.Load i) o b h = access_made (k.Load i) o b (accesses.Load i) (λ n m. refl) (λ n m. tt)
+  whole (k.Access (accesses.Load i)) o b h = access_made (k.Access (accesses.Load i)) o b (accesses.Load i) (λ n m. refl) (λ n m. tt)
       (λ n m front back e u v. (front, back, e, (fresh_number n front).1 u, (fresh_number m back).1 v)) h
-  whole (k.Store i) o b h = access_made (k.Store i) o b (accesses.Store i) (λ n m. refl) (λ n m. tt)
+  whole (k.Access (accesses.Store i)) o b h = access_made (k.Access (accesses.Store i)) o b (accesses.Store i) (λ n m. refl) (λ n m. tt)
       (λ n m front back e u v. (front, back, e, (fresh_number n front).1 u, (fresh_number m back).1 v)) h
 
   pub coded_from : (x : ℕ) (class : OpClass) → class_under p x ≡ class → (o : Op) (b : List ℕ) → Goes (op_rest p) (class_step class) o b → Coded p x o b
@@ -422,7 +497,7 @@ module _ (p : Profile) where
         ))
 
   -- the number behind the prefix
-  number_parts : (n c : ℕ) (b front back : List ℕ) → c ∷ b ≡ front ++ back → SpellsU32 n front → n < 12
+  number_parts : (n c : ℕ) (b front back : List ℕ) → c ∷ b ≡ front ++ back → SpellsU32 n front → n < 15
       → ((c < 0x80) × (n ≡ c) × (b ≡ back)) ⊎ ((0x80 ≤ c) × (n ≡ c - 0x80) × (f : List ℕ) × (b ≡ f ++ back) × Zeros 3 f)
   number_parts n c b [] back e u few = absurd u
   number_parts n c b (d ∷ f) back e (inl (small, fits, is, ends)) few =
@@ -529,8 +604,13 @@ module _ (p : Profile) where
   op_law (at.Index i r) c byte o b =
       makes_law Left r c (index_op i) (λ t. at.Index i t) (λ t o b. same_left) (unsigned_push 32 r c) (λ n b. unsigned_law 32 r n c b byte) o b
   op_law (at.CallType r) c byte o b =
-      leads_law Left r c (λ n. Tabled p (call_op n) 4) (λ t. at.CallType t) (λ n. at.CallTable n 4) left_nil (λ t o b. same_left) (λ n o b. same_left) (unsigned_push 32 r c) (λ n b. unsigned_law 32 r n c b byte) o b
-  op_law (at.CallTable n left) c byte o b = table_law n left c o b
+      leads_law Left r c (λ n. Tabled p (table.Call n) 4) (λ t. at.CallType t) (λ n. at.Table (table.Call n) 4) left_nil (λ t o b. same_left) (λ n o b. same_left) (unsigned_push 32 r c) (λ n b. unsigned_law 32 r n c b byte) o b
+  op_law (at.Table t left) c byte o b = table_law t c o b left
+  op_law (at.InitElement r) c byte o b =
+      leads_law Left r c (λ n. Tabled p (table.Init n) 4) (λ t. at.InitElement t) (λ n. at.Table (table.Init n) 4) left_nil (λ t o b. same_left) (λ n o b. same_left) (unsigned_push 32 r c) (λ n b. unsigned_law 32 r n c b byte) o b
+  op_law (at.InitSegment r) c byte o b =
+      leads_law Left r c (λ n. Closed (init_op n)) (λ t. at.InitSegment t) (λ n. at.InitMemory n) left_nil (λ t o b. same_left) (λ n o b. same_left) (unsigned_push 32 r c) (λ n b. unsigned_law 32 r n c b byte) o b
+  op_law (at.InitMemory n) c byte o b = closed_law (init_op n) c o b
   op_law at.FirstZero c byte o b = first_zero_law c o b
   op_law (at.Memory m) c byte o b = closed_law (memory_op m) c o b
   op_law (at.Const32 r) c byte o b =
@@ -564,7 +644,12 @@ module _ (p : Profile) where
   rest_some (at.BlockType i) o h = block_some h.0 h.2.1
   rest_some (at.Index i r) o h = left_nil r h.0 h.2
   rest_some (at.CallType r) o h = lead_some (Left r) (left_nil r) h.0 h.1 h.2 h.3 h.4
-  rest_some (at.CallTable n left) o h = zeros_nil left (table_zeros p left [] h.1)
+  rest_some (at.Table t left) o h =
+      let rest : Form ℕ = TableRest p (table_feature t) left in
+      lead_front rest (λ z. zeros_nil left (table_zeros p (table_feature t) left [] z)) h.1.0 h.1.1 h.1.2 h.1.3
+  rest_some (at.InitElement r) o h = lead_some (Left r) (left_nil r) h.0 h.1 h.2 h.3 h.4
+  rest_some (at.InitSegment r) o h = lead_some (Left r) (left_nil r) h.0 h.1 h.2 h.3 h.4
+  rest_some (at.InitMemory n) o h = not_nil 0x00 [] (sym h.1)
   rest_some at.FirstZero o h = not_nil 0x00 h.1.1 (sym (h.1.2 ∙ ap (λ y. y ++ h.1.1) h.1.3))
   rest_some (at.Memory m) o h = not_nil 0x00 [] (sym h.1)
   rest_some (at.Const32 r) o h = h.2.3
@@ -579,30 +664,38 @@ module _ (p : Profile) where
 
   -- what comes of an op past its first byte has immediates
   block_has : (i : BlockOp) (t : Option ValType) → HasImmediates (block_op i t)
-  block_has opening.Block t = (k.Block, refl)
-  block_has opening.Loop t = (k.Loop, refl)
-  block_has opening.If t = (k.If, refl)
+  block_has opening.Block t = (k.Block opening.Block, refl)
+  block_has opening.Loop t = (k.Block opening.Loop, refl)
+  block_has opening.If t = (k.Block opening.If, refl)
 
   index_has : (i : Indexed) (n : ℕ) → HasImmediates (index_op i n)
-  index_has indexed.Br n = (k.Br, refl)
-  index_has indexed.BrIf n = (k.BrIf, refl)
-  index_has indexed.BrTable n = (k.BrTable, refl)
-  index_has indexed.Call n = (k.Call, refl)
-  index_has indexed.LocalGet n = (k.LocalGet, refl)
-  index_has indexed.LocalSet n = (k.LocalSet, refl)
-  index_has indexed.LocalTee n = (k.LocalTee, refl)
-  index_has indexed.GlobalGet n = (k.GlobalGet, refl)
-  index_has indexed.GlobalSet n = (k.GlobalSet, refl)
+  index_has indexed.Br n = (k.Index indexed.Br, refl)
+  index_has indexed.BrIf n = (k.Index indexed.BrIf, refl)
+  index_has indexed.BrTable n = (k.Index indexed.BrTable, refl)
+  index_has indexed.Call n = (k.Index indexed.Call, refl)
+  index_has indexed.LocalGet n = (k.Index indexed.LocalGet, refl)
+  index_has indexed.LocalSet n = (k.Index indexed.LocalSet, refl)
+  index_has indexed.LocalTee n = (k.Index indexed.LocalTee, refl)
+  index_has indexed.GlobalGet n = (k.Index indexed.GlobalGet, refl)
+  index_has indexed.GlobalSet n = (k.Index indexed.GlobalSet, refl)
+  index_has indexed.DataDrop n = (k.Index indexed.DataDrop, refl)
+  index_has indexed.ElemDrop n = (k.Index indexed.ElemDrop, refl)
+
+  table_has : (t : TableOp) → HasImmediates (table_op t)
+  table_has (table.Call n) = (k.CallIndirect, refl)
+  table_has (table.Init n) = (k.TableInit, refl)
+  table_has table.CopyTo = (k.TableCopy, refl)
+  table_has table.CopyFrom = (k.TableCopy, refl)
 
   memory_has : (m : MemoryOp) → HasImmediates (memory_op m)
-  memory_has memory.Size = (k.MemorySize, refl)
-  memory_has memory.Grow = (k.MemoryGrow, refl)
-  memory_has memory.Copy = (k.MemoryCopy, refl)
-  memory_has memory.Fill = (k.MemoryFill, refl)
+  memory_has memory.MemorySize = (k.Memory memory.MemorySize, refl)
+  memory_has memory.MemoryGrow = (k.Memory memory.MemoryGrow, refl)
+  memory_has memory.MemoryCopy = (k.Memory memory.MemoryCopy, refl)
+  memory_has memory.MemoryFill = (k.Memory memory.MemoryFill, refl)
 
   access_has : (a : LoadOrStore) (m : MemArg) → HasImmediates (access_op a m)
-  access_has (accesses.Load i) m = (k.Load i, refl)
-  access_has (accesses.Store i) m = (k.Store i, refl)
+  access_has (accesses.Load i) m = (k.Access (accesses.Load i), refl)
+  access_has (accesses.Store i) m = (k.Access (accesses.Store i), refl)
 
   named : (o f : Op) → o ≡ f → HasImmediates f → NoLabel o
   named o f e h = subst NoLabel (sym e) (no_label f h)
@@ -615,8 +708,11 @@ module _ (p : Profile) where
   rest_named (at.BlockType i) o b h = named o (block_op i h.0) h.1 (block_has i h.0)
   rest_named (at.Index i r) o b h = named o (index_op i h.0) h.1 (index_has i h.0)
   rest_named (at.CallType r) o b h = let c = h.5 in named o (call_op h.0) c.0 (k.CallIndirect, refl)
-  rest_named (at.CallTable n left) o b h = named o (call_op n) h.0 (k.CallIndirect, refl)
-  rest_named at.FirstZero o b h = named o (memory_op memory.Copy) h.0 (memory_has memory.Copy)
+  rest_named (at.Table t left) o b h = named o (table_op t) h.0 (table_has t)
+  rest_named (at.InitElement r) o b h = let c = h.5 in named o (init_table_op h.0) c.0 (k.TableInit, refl)
+  rest_named (at.InitSegment r) o b h = let c = h.5 in named o (init_op h.0) c.0 (k.MemoryInit, refl)
+  rest_named (at.InitMemory n) o b h = named o (init_op n) h.0 (k.MemoryInit, refl)
+  rest_named at.FirstZero o b h = named o (memory_op memory.MemoryCopy) h.0 (memory_has memory.MemoryCopy)
   rest_named (at.Memory m) o b h = named o (memory_op m) h.0 (memory_has m)
   rest_named (at.Const32 r) o b h = named o (const_32_op h.0) h.1 (k.I32Const, refl)
   rest_named (at.Const64 r) o b h = named o (const_64_op h.0) h.1 (k.I64Const, refl)

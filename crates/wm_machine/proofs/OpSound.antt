@@ -26,18 +26,21 @@ use Rattle.wm_syntax.proofs.FirstBytes.{behind_no_float, float_under, found_unde
 use Rattle.wm_syntax.specs.OpClasses.{IsClassOfOp, class_of}
 use Rattle.wm_machine.specs.declared.step.reading.Reading.{Reading}
 use Rattle.wm_machine.specs.declared.step.reading.Reading.TheVariants.{More, Done, Bad}
-use Rattle.wm_machine.specs.declared.step.ops.BlockOp.{BlockOp}
-use Rattle.wm_machine.specs.declared.step.ops.MemoryOp.TheVariants as memory
+use Rattle.wm_syntax.specs.declared.instructions.op_class.BlockOp.{BlockOp}
+use Rattle.wm_syntax.specs.declared.instructions.op_class.MemoryOp.TheVariants as memory
 use Rattle.wm_machine.specs.declared.step.ops.InOp.{InOp}
 use Rattle.wm_machine.specs.declared.step.ops.InOp.TheVariants as at
-use Rattle.wm_machine.specs.exact.OpSteps.{block_op, index_op, call_op, memory_op, const_32_op, const_64_op, float_32_op, float_64_op, pushed_32, pushed_64, on_answer, immediates, class_step, prefix_step, begin_step, padded, code_step, more_padding, padding_step, block_step, first_zero_step, closing_step, long_step, table_step, op_push}
+use Rattle.wm_machine.specs.exact.OpSteps.{call_op, init_op, init_table_op, copy_table_op, table_feature, after_table, const_32_op, const_64_op, float_32_op, float_64_op, pushed_32, pushed_64, on_answer, immediates, class_step, prefix_step, begin_step, padded, code_step, more_padding, padding_step, block_step, first_zero_step, closing_step, long_step, table_step, op_push}
+use Rattle.wm_syntax.specs.exact.OpShapes.{block_op, index_op, memory_op}
 use Rattle.wm_machine.specs.exact.ValueSteps.{read_type, type_under, value_type_of}
 use Rattle.wm_machine.proofs.Numbers.{Left}
 use Rattle.wm_machine.proofs.FloatBytes.{float_comes}
 use Rattle.wm_machine.proofs.OpRest.{Coded, at_offset, coded_from, op_rest}
 use Rattle.wm_machine.proofs.ValueBytes.{type_given}
 use Rattle.wm_machine.specs.Decoding.{IsFloatByte}
-use Rattle.wm_syntax.specs.declared.profile.Feature.TheVariants.{LongIndex}
+use Rattle.wm_machine.specs.declared.step.ops.TableOp.{TableOp}
+use Rattle.wm_machine.specs.declared.step.ops.TableOp.TheVariants as table
+use Rattle.wm_machine.proofs.OpRest.{table_op, after_comes}
 
 -- the number so far can still be ended, and is as small as its bytes say
 abbrev pub HasRoom : ℕ → Partial → Type 0
@@ -83,6 +86,8 @@ SoundOp p at.Code = IsTrue (has_prefix p)
 SoundOp p (at.Padding n left) = IsClassOfOp (class_under p (0x100 + n)) × (left ≤ 3)
 SoundOp p (at.Index i r) = HasRoom 32 r
 SoundOp p (at.CallType r) = HasRoom 32 r
+SoundOp p (at.InitElement r) = HasRoom 32 r
+SoundOp p (at.InitSegment r) = HasRoom 32 r
 SoundOp p (at.Const32 r) = HasRoom 32 r
 SoundOp p (at.Const64 r) = HasRoom 64 r
 SoundOp p (at.Align a r) = HasRoom 32 r
@@ -98,13 +103,12 @@ pub fresh_32 : HasRoom 32 fresh
 fresh_32 = fresh_room 32 (omega arith)
 
 immediates_sound : (p : Profile) (kind : Immediates) → SoundOp p (immediates kind)
-immediates_sound p k.Block = tt
-immediates_sound p k.Loop = tt
-immediates_sound p k.If = tt
-immediates_sound p k.MemorySize = tt
-immediates_sound p k.MemoryGrow = tt
-immediates_sound p k.MemoryCopy = tt
-immediates_sound p k.MemoryFill = tt
+immediates_sound p (k.Block o) = tt
+immediates_sound p (k.Memory memory.MemorySize) = tt
+immediates_sound p (k.Memory memory.MemoryGrow) = tt
+immediates_sound p (k.Memory memory.MemoryCopy) = tt
+immediates_sound p (k.Memory memory.MemoryFill) = tt
+immediates_sound p k.TableCopy = tt
 immediates_sound p k.I64Const = fresh_room 64 (omega arith)
 immediates_sound p k.F32Const = tt
 immediates_sound p k.F64Const = tt
@@ -151,12 +155,18 @@ block_fine p i c = cond_both (nat_eq c 0x40) _ _ (λ (a : Reading InOp Op). Fine
 closing_fine : (p : Profile) (o : Op) (c : ℕ) → FineOp p (closing_step o c)
 closing_fine p o c = cond_both (nat_eq c 0x00) _ _ (λ (a : Reading InOp Op). FineOp p a) (λ _. tt) (λ _. tt)
 
-long_fine : (p : Profile) (n left c : ℕ) → FineOp p (long_step n left c)
-long_fine p n zero c = tt
-long_fine p n (suc left) c = cond_both (nat_eq c 0x80) _ _ (λ (a : Reading InOp Op). FineOp p a) (λ _. tt) (λ _. tt)
+long_fine : (p : Profile) (t : TableOp) (left c : ℕ) → FineOp p (long_step t left c)
+long_fine p t zero c = tt
+long_fine p t (suc left) c = cond_both (nat_eq c 0x80) _ _ (λ (a : Reading InOp Op). FineOp p a) (λ _. tt) (λ _. tt)
 
-table_fine : (p : Profile) (n left c : ℕ) → FineOp p (table_step p n left c)
-table_fine p n left c = cond_both (nat_eq c 0x00) _ _ (λ (a : Reading InOp Op). FineOp p a) (λ _. tt) (λ _. cond_both (has p LongIndex) _ _ (λ (a : Reading InOp Op). FineOp p a) (λ _. long_fine p n left c) (λ _. tt))
+after_fine : (p : Profile) (t : TableOp) → FineOp p (after_table t)
+after_fine p (table.Call n) = tt
+after_fine p (table.Init n) = tt
+after_fine p table.CopyTo = tt
+after_fine p table.CopyFrom = tt
+
+table_fine : (p : Profile) (t : TableOp) (left c : ℕ) → FineOp p (table_step p t left c)
+table_fine p t left c = cond_both (nat_eq c 0x00) _ _ (λ (a : Reading InOp Op). FineOp p a) (λ _. after_fine p t) (λ _. cond_both (has p (table_feature t)) _ _ (λ (a : Reading InOp Op). FineOp p a) (λ _. long_fine p t left c) (λ _. tt))
 
 answer_fine : {T : Type 0} (p : Profile) (bits : ℕ) (q : Step T × Partial) (more : Partial → InOp) (done : T → Reading InOp Op) → RoomAfter bits q → ((r : Partial) → HasRoom bits r → SoundOp p (more r)) → ((v : T) → FineOp p (done v)) → FineOp p (on_answer q (λ r. More (more r)) done (Bad why.BadNumber))
 answer_fine p bits (step.More, r) more done h f g = f r h
@@ -169,8 +179,11 @@ op_fine p at.Code c byte h = code_fine p c
 op_fine p (at.Padding n left) c byte h = padding_fine p n left c h
 op_fine p (at.BlockType i) c byte h = block_fine p i c
 op_fine p (at.Index i r) c byte h = answer_fine p 32 (unsigned_push 32 r c) (λ t. at.Index i t) (λ n. Done (index_op i n)) (unsigned_room 32 r c h byte) (λ t g. g) (λ n. tt)
-op_fine p (at.CallType r) c byte h = answer_fine p 32 (unsigned_push 32 r c) (λ t. at.CallType t) (λ n. More (at.CallTable n 4)) (unsigned_room 32 r c h byte) (λ t g. g) (λ n. tt)
-op_fine p (at.CallTable n left) c byte h = table_fine p n left c
+op_fine p (at.CallType r) c byte h = answer_fine p 32 (unsigned_push 32 r c) (λ t. at.CallType t) (λ n. More (at.Table (table.Call n) 4)) (unsigned_room 32 r c h byte) (λ t g. g) (λ n. tt)
+op_fine p (at.Table t left) c byte h = table_fine p t left c
+op_fine p (at.InitElement r) c byte h = answer_fine p 32 (unsigned_push 32 r c) (λ t. at.InitElement t) (λ n. More (at.Table (table.Init n) 4)) (unsigned_room 32 r c h byte) (λ t g. g) (λ n. tt)
+op_fine p (at.InitSegment r) c byte h = answer_fine p 32 (unsigned_push 32 r c) (λ t. at.InitSegment t) (λ n. More (at.InitMemory n)) (unsigned_room 32 r c h byte) (λ t g. g) (λ n. tt)
+op_fine p (at.InitMemory n) c byte h = closing_fine p (init_op n) c
 op_fine p at.FirstZero c byte h = first_zero_fine p c
 op_fine p (at.Memory m) c byte h = closing_fine p (memory_op m) c
 op_fine p (at.Const32 r) c byte h = answer_fine p 32 (signed_push 32 r c) (λ t. at.Const32 t) (λ z. Done (const_32_op z)) (signed_room 32 r c h byte) (λ t g. g) (λ z. tt)
@@ -199,7 +212,8 @@ PastCode (at.Padding n left) = ⊥
 PastCode _ = Unit {0}
 
 immediates_past : (kind : Immediates) → PastCode (immediates kind)
-immediates_past k.Block = tt
+immediates_past (k.Memory memory.MemoryCopy) = tt
+immediates_past (k.Memory _) = tt
 immediates_past _ = tt
 
 some_rest : (p : Profile) (r : InOp) → SoundOp p r → PastCode r → (o : Op) × (b : List ℕ) × op_rest p r o b
@@ -208,9 +222,12 @@ some_rest p at.Code h k = absurd k
 some_rest p (at.Padding n left) h k = absurd k
 some_rest p (at.BlockType i) h k = (block_op i Nothing, 0x40 ∷ [], (Nothing, refl, (tt, refl)))
 some_rest p (at.Index i r) h k = (index_op i r.low, 0 ∷ [], (r.low, refl, last_byte r h.0))
-some_rest p (at.CallType r) h k = (call_op r.low, 0 ∷ 0 ∷ [], (r.low, 0 ∷ [], 0 ∷ [], refl, last_byte r h.0, (refl, inl refl)))
-some_rest p (at.CallTable n left) h k = (call_op n, 0 ∷ [], (refl, inl refl))
-some_rest p at.FirstZero h k = (memory_op memory.Copy, 0 ∷ 0 ∷ [], (refl, (0 ∷ [], 0 ∷ [], refl, refl, refl)))
+some_rest p (at.CallType r) h k = (call_op r.low, 0 ∷ 0 ∷ [], (r.low, 0 ∷ [], 0 ∷ [], refl, last_byte r h.0, (refl, (0 ∷ [], [], refl, inl refl, refl))))
+some_rest p (at.Table t left) h k = let g = after_comes p t in (table_op t, 0 ∷ g.0, (refl, (0 ∷ [], g.0, refl, inl refl, g.1)))
+some_rest p (at.InitElement r) h k = (init_table_op r.low, 0 ∷ 0 ∷ [], (r.low, 0 ∷ [], 0 ∷ [], refl, last_byte r h.0, (refl, (0 ∷ [], [], refl, inl refl, refl))))
+some_rest p (at.InitSegment r) h k = (init_op r.low, 0 ∷ 0 ∷ [], (r.low, 0 ∷ [], 0 ∷ [], refl, last_byte r h.0, (refl, refl)))
+some_rest p (at.InitMemory n) h k = (init_op n, 0 ∷ [], (refl, refl))
+some_rest p at.FirstZero h k = (memory_op memory.MemoryCopy, 0 ∷ 0 ∷ [], (refl, (0 ∷ [], 0 ∷ [], refl, refl, refl)))
 some_rest p (at.Memory m) h k = (memory_op m, 0 ∷ [], (refl, refl))
 some_rest p (at.Const32 r) h k = (const_32_op (last_signed r (pos 0)), 0 ∷ [], (last_signed r (pos 0), refl, last_signed_byte 32 r h.0))
 some_rest p (at.Const64 r) h k = (const_64_op (last_signed r (pos 0)), 0 ∷ [], (last_signed r (pos 0), refl, last_signed_byte 64 r h.0))
@@ -306,7 +323,7 @@ module _ (name : Why) (Fault : ℕ → Type 0) (other : (w : Why) → IsOther w 
   padding_faults p n left c = cond_both (nat_eq c 0x00) _ _ (λ (a : Reading InOp Op). Faults c a) (λ _. behind_faults p n c (class_under p (0x100 + n)) refl) (λ _. padding_more n left c)
 
   first_zero_faults : (c : ℕ) → Faults c (first_zero_step c)
-  first_zero_faults c = cond_both (nat_eq c 0x00) _ _ (λ (a : Reading InOp Op). Faults c a) (λ _. more_faults c (at.Memory memory.Copy)) (λ _. no_fault c why.BadByte tt)
+  first_zero_faults c = cond_both (nat_eq c 0x00) _ _ (λ (a : Reading InOp Op). Faults c a) (λ _. more_faults c (at.Memory memory.MemoryCopy)) (λ _. no_fault c why.BadByte tt)
 
   -- a type of floating-point numbers, where the profile may have it
   under_faults : (p : Profile) (t : ValType) (c : ℕ) → IsFloatByte c → type_under p t ≡ Err name → Fault c
@@ -330,12 +347,18 @@ module _ (name : Why) (Fault : ℕ → Type 0) (other : (w : Why) → IsOther w 
   closing_faults : (o : Op) (c : ℕ) → Faults c (closing_step o c)
   closing_faults o c = cond_both (nat_eq c 0x00) _ _ (λ (a : Reading InOp Op). Faults c a) (λ _. done_faults c o) (λ _. no_fault c why.BadByte tt)
 
-  long_faults : (n left c : ℕ) → Faults c (long_step n left c)
-  long_faults n zero c = no_fault c why.BadNumber tt
-  long_faults n (suc left) c = cond_both (nat_eq c 0x80) _ _ (λ (a : Reading InOp Op). Faults c a) (λ _. more_faults c (at.CallTable n left)) (λ _. no_fault c why.BadNumber tt)
+  long_faults : (t : TableOp) (left c : ℕ) → Faults c (long_step t left c)
+  long_faults t zero c = no_fault c why.BadNumber tt
+  long_faults t (suc left) c = cond_both (nat_eq c 0x80) _ _ (λ (a : Reading InOp Op). Faults c a) (λ _. more_faults c (at.Table t left)) (λ _. no_fault c why.BadNumber tt)
 
-  table_faults : (p : Profile) (n left c : ℕ) → Faults c (table_step p n left c)
-  table_faults p n left c = cond_both (nat_eq c 0x00) _ _ (λ (a : Reading InOp Op). Faults c a) (λ _. done_faults c (call_op n)) (λ _. cond_both (has p LongIndex) _ _ (λ (a : Reading InOp Op). Faults c a) (λ _. long_faults n left c) (λ _. no_fault c why.BadByte tt))
+  after_faults : (t : TableOp) (c : ℕ) → Faults c (after_table t)
+  after_faults (table.Call n) c = done_faults c (call_op n)
+  after_faults (table.Init n) c = done_faults c (init_table_op n)
+  after_faults table.CopyTo c = more_faults c (at.Table table.CopyFrom 4)
+  after_faults table.CopyFrom c = done_faults c copy_table_op
+
+  table_faults : (p : Profile) (t : TableOp) (left c : ℕ) → Faults c (table_step p t left c)
+  table_faults p t left c = cond_both (nat_eq c 0x00) _ _ (λ (a : Reading InOp Op). Faults c a) (λ _. after_faults t c) (λ _. cond_both (has p (table_feature t)) _ _ (λ (a : Reading InOp Op). Faults c a) (λ _. long_faults t left c) (λ _. no_fault c why.BadByte tt))
 
   answer_faults : {T : Type 0} (c : ℕ) (q : Step T × Partial) (more : Partial → InOp) (done : T → Reading InOp Op) → ((v : T) → Faults c (done v)) → Faults c (on_answer q (λ r. More (more r)) done (Bad why.BadNumber))
   answer_faults c (step.More, r) more done g = more_faults c (more r)
@@ -348,8 +371,11 @@ module _ (name : Why) (Fault : ℕ → Type 0) (other : (w : Why) → IsOther w 
   op_faults p (at.Padding n left) c = padding_faults p n left c
   op_faults p (at.BlockType i) c = block_faults p i c
   op_faults p (at.Index i r) c = answer_faults c (unsigned_push 32 r c) (λ t. at.Index i t) (λ n. Done (index_op i n)) (λ n. done_faults c (index_op i n))
-  op_faults p (at.CallType r) c = answer_faults c (unsigned_push 32 r c) (λ t. at.CallType t) (λ n. More (at.CallTable n 4)) (λ n. more_faults c (at.CallTable n 4))
-  op_faults p (at.CallTable n left) c = table_faults p n left c
+  op_faults p (at.CallType r) c = answer_faults c (unsigned_push 32 r c) (λ t. at.CallType t) (λ n. More (at.Table (table.Call n) 4)) (λ n. more_faults c (at.Table (table.Call n) 4))
+  op_faults p (at.Table t left) c = table_faults p t left c
+  op_faults p (at.InitElement r) c = answer_faults c (unsigned_push 32 r c) (λ t. at.InitElement t) (λ n. More (at.Table (table.Init n) 4)) (λ n. more_faults c (at.Table (table.Init n) 4))
+  op_faults p (at.InitSegment r) c = answer_faults c (unsigned_push 32 r c) (λ t. at.InitSegment t) (λ n. More (at.InitMemory n)) (λ n. more_faults c (at.InitMemory n))
+  op_faults p (at.InitMemory n) c = closing_faults (init_op n) c
   op_faults p at.FirstZero c = first_zero_faults c
   op_faults p (at.Memory m) c = closing_faults (memory_op m) c
   op_faults p (at.Const32 r) c = answer_faults c (signed_push 32 r c) (λ t. at.Const32 t) (λ z. Done (const_32_op z)) (λ z. done_faults c (const_32_op z))

@@ -1,5 +1,9 @@
 -- Something may still come in each state of a member, under `loose`.
 use Rattle.std.proofs.Common.{◌≡◌, ℕ, zero, suc, ◌-◌, ◌<◌, ◌^◌, true, false, List, [], ◌∷◌, ◌++◌, Option, Some, None, length, refl, sym, subst, arith}
+use Rattle.wm_machine.specs.Grammar.{SegmentRest, segment_item}
+use Rattle.std.proofs.Common.{◌≤◌, Bool, IsTrue}
+use Rattle.wm_syntax.specs.Profiles.{has}
+use Rattle.wm_syntax.specs.declared.profile.Feature.TheVariants.{BulkMemory}
 use Rattle.wm_syntax.specs.inner.Numbers.{Partial}
 use Rattle.wm_syntax.specs.exact.Reading.{fresh}
 use Rattle.wm_syntax.specs.Spelling.{Form, AreBytes}
@@ -56,6 +60,9 @@ use Rattle.wm_machine.proofs.ExpressionSound.{SoundExpression, start_sound, some
 use Rattle.wm_machine.proofs.EntryBytes.{EntryRest, run_part}
 use Rattle.wm_machine.proofs.MemberBytes.{OneOf, index_mark, AfterName, AfterIndex, AfterConstant, Listed, InSize, ComponentRest, begin_same}
 use Rattle.wm_machine.proofs.MemberSound.{SoundLimits, SoundTable, SoundDesc, SoundTarget, SoundRun, SoundValue, StandsEntry, Stands, CanGo, can_begin}
+use Rattle.wm_machine.specs.declared.machine.member.SegmentKind.{SegmentKind}
+use Rattle.wm_machine.specs.declared.machine.member.SegmentKind.TheVariants as segments
+use Rattle.wm_machine.specs.Grammar.{active_item, SegmentList, KindedList}
 
 pub record Comes (P : MarkedForm) : Type 0 where
   pub bytes : List ℕ
@@ -219,17 +226,45 @@ module _ (p : Profile) where
   some_listed length_of.Functions = a_function
   some_listed length_of.Bytes = some_data
 
+  -- the last part of a segment, and that behind the flag 1 or 2
+  some_list : (of : SegmentKind) → Comes (SegmentList of)
+  some_list segments.Element = some_vector (Index element_function) a_function
+  some_list segments.Data = some_vector DataByte some_data
+
+  some_kinded : (of : SegmentKind) → Comes (KindedList of)
+  some_kinded segments.Element =
+      some_then (OneByte 0x00 None) (SegmentList segments.Element) (record { bytes = 0x00 ∷ []; marks = outside_mark None ∷ []; spelled = (refl, refl) }) (some_list segments.Element)
+  some_kinded segments.Data = some_list segments.Data
+
   pub after_constant : (of : ConstantOf) → Comes (AfterConstant loose p of)
   after_constant constant.Global = some_empty
-  after_constant constant.Element = some_vector (Index element_function) a_function
-  after_constant constant.Segment = some_vector DataByte some_data
+  after_constant constant.Element = some_list segments.Element
+  after_constant constant.IndexedElement = some_kinded segments.Element
+  after_constant constant.Segment = some_list segments.Data
 
   pub after_index : (of : IndexOf) → Comes (AfterIndex loose p of)
   after_index index.Function = some_empty
   after_index index.Start = some_empty
-  after_index index.Element = some_then (Expression p const_op) (Vector (Index element_function)) (some_whole const_op) (some_vector (Index element_function) a_function)
+  after_index index.Element = some_then (Expression p const_op) (KindedList segments.Element) (some_whole const_op) (some_kinded segments.Element)
   after_index (index.ElementFunction more) = some_times more (Index element_function) a_function
-  after_index index.Segment = some_then (Expression p const_op) (Vector DataByte) (some_whole const_op) (some_vector DataByte some_data)
+  after_index index.Segment = some_then (Expression p const_op) (SegmentList segments.Data) (some_whole const_op) (some_list segments.Data)
+
+  -- the number at the front of a segment
+  active_comes : (of : SegmentKind) → Comes (Then (Expression p const_op) (SegmentList of))
+  active_comes of = some_then (Expression p const_op) (SegmentList of) (some_whole const_op) (some_list of)
+
+  pub small_comes : (flagged : Bool) (of : SegmentKind) (n : ℕ) → (IsTrue flagged → n ≤ 2) → Comes (SegmentRest p flagged of n)
+  small_comes false of n l = active_comes of
+  small_comes true of zero l = active_comes of
+  small_comes true of (suc zero) l = some_kinded of
+  small_comes true of (suc (suc zero)) l =
+      let R : MarkedForm = Then (Expression p const_op) (KindedList of) in
+      some_then (Index (active_item of)) R (some_index (active_item of)) (some_then (Expression p const_op) (KindedList of) (some_whole const_op) (some_kinded of))
+  small_comes true of (suc (suc (suc n))) l = let few = l refl in absurd (omega (arith, few))
+
+  some_front : (flagged : Bool) (of : SegmentKind) (r : Partial) → HasRoom 32 r → (IsTrue flagged → r.low ≤ 2) → Comes (Counted (Left r) (segment_item flagged of) (SegmentRest p flagged of))
+  some_front flagged of r h l = let g = small_comes flagged of r.low l in
+      record { bytes = 0 ∷ g.bytes; marks = outside_mark (segment_item flagged of r.low) ∷ g.marks; spelled = record { n = r.low; front = 0 ∷ []; back = g.bytes; back_marks = g.marks; bytes = refl; marks = refl; number = last_byte r h.0; rest = g.spelled } }
 
   a_desc : Comes (Desc p)
   a_desc = some_leaf (Those (HasDesc p) SpellsDesc) import_desc (some_desc p import.Kind tt)
@@ -257,6 +292,8 @@ module _ (p : Profile) where
   some_place left (at.Name of more) y h = some_then (NameLeft loose y (suc more) (name_item of)) (AfterName loose p of) (some_name_left (name_item of) y (suc more)) (after_name of)
   some_place left (at.Value v) y h = some_leaf (value_rest p v) plain_item (some_value p v h)
   some_place left (at.Index of r) y h = some_counted (index_mark loose p of) (λ n. AfterIndex loose p of) r h (λ n. after_index of)
+  some_place left (at.SegmentStart of r) y h = some_front (has p BulkMemory) of r h.0 h.1
+  some_place left at.ElementKind y h = some_kinded segments.Element
   some_place left (at.GlobalType g) y h = some_then (Leaf (global_rest p g) global_part) (Expression p const_op) (some_leaf (global_rest p g) global_part (some_global p g)) (some_whole const_op)
   some_place left (at.Constant of e) y h = some_then (ExpressionRest p const_op e) (AfterConstant loose p of) (some_ops const_op left e h.1) (after_constant of)
   some_place left (at.Length of r) y h = some_counted nothing_at (λ n. Times n (Listed loose p of)) r h (λ n. some_times n (Listed loose p of) (some_listed of))

@@ -2,6 +2,7 @@
 use Rattle.std.proofs.Common.{◌≡◌, ℕ, zero, suc, ◌<◌, ◌≤◌, ◌^◌, ◌⊎◌, inl, inr, List, [], ◌∷◌, ◌++◌, Option, Some, None, Result, Ok, Err, refl, sym, ◌∙◌, ap, subst, arith, append_assoc, append-nil}
 use Rattle.std.proofs.lemmas.Bool.{cond_both}
 use Rattle.std.specs.Str.{is_utf8}
+use Rattle.wm_syntax.specs.declared.profile.Profile.{Profile}
 use Rattle.wm_syntax.specs.declared.why.Why.{Why}
 use Rattle.wm_syntax.specs.declared.why.Why.TheVariants as why
 use Rattle.wm_syntax.specs.Spelling.{AreBytes}
@@ -26,23 +27,23 @@ use Rattle.wm_machine.proofs.MachineStates.{Fits, run_fits}
 use Rattle.wm_machine.proofs.ItemFronts.{item_front}
 
 -- the machine gives none of these names
-not_machine : (used : List ℕ) (w : Why) → IsRuleName w → MachineSays used w → ⊥
-not_machine used why.TooManyLocals i h = h
-not_machine used why.Index i h = h
-not_machine used why.Mismatch i h = h
-not_machine used why.Arity i h = h
-not_machine used why.Limits i h = h
-not_machine used why.Second i h = h
-not_machine used why.DuplicateExport i h = h
-not_machine used why.StartType i h = h
-not_machine used why.NotConst i h = h
-not_machine used why.Immutable i h = h
-not_machine used why.Align i h = h
-not_machine used why.ElsePlace i h = h
-not_machine used why.ManyFunctions i h = h
-not_machine used why.ManyLocals i h = h
-not_machine used why.Deep i h = h
-not_machine used w i h = i
+not_machine : (p : Profile) (used : List ℕ) (w : Why) → IsRuleName w → MachineSays p used w → ⊥
+not_machine p used why.TooManyLocals i h = h
+not_machine p used why.Index i h = h
+not_machine p used why.Mismatch i h = h
+not_machine p used why.Arity i h = h
+not_machine p used why.Limits i h = h
+not_machine p used why.Second i h = h
+not_machine p used why.DuplicateExport i h = h
+not_machine p used why.StartType i h = h
+not_machine p used why.NotConst i h = h
+not_machine p used why.Immutable i h = h
+not_machine p used why.Align i h = h
+not_machine p used why.ElsePlace i h = h
+not_machine p used why.ManyFunctions i h = h
+not_machine p used why.ManyLocals i h = h
+not_machine p used why.Deep i h = h
+not_machine p used w i h = i
 
 heard_err : (zone : Zone) (y : List ℕ) (c : ℕ) (m : Machine) (e : Event) (w : Why) → (byte_read machine.Refused zone y c (m, e)).at ≡ machine.Refused w → (m ≡ machine.Refused w) ⊎ (why.BadUtf8 ≡ w)
 heard_err zone y c m event.Nothing w i = inl i
@@ -101,7 +102,7 @@ module _ {H : Type 0} (after : H → Item → Result H Why) (s : Setting H) wher
             let fit : Fits s.profile l.machine = subst (λ (z : MachineState). Fits s.profile z.machine) (sym byte_state) (run_fits s.profile state_at_start b bytes begin_fits) in
             let frame : Framed l.machine b = subst (λ (z : MachineState). Framed z.machine b) (sym byte_state) (run_framed s.profile state_at_start [] b bytes (omega arith, refl)) in
             elim (heard_err (zone_of l.machine) l.name c (step_of s.profile l.machine c).0 (step_of s.profile l.machine c).1 w m) [
-              | inl f ↦ not_machine (b ++ c ∷ []) w i (step_says s.profile l.machine c b byte (before.live (λ i. i)) fit frame w f)
+              | inl f ↦ not_machine s.profile (b ++ c ∷ []) w i (step_says s.profile l.machine c b byte (before.live (λ i. i)) fit frame w f)
               | inr t ↦ subst IsRuleName (sym t) i
             ]
 
@@ -129,11 +130,13 @@ module _ {H : Type 0} (after : H → Item → Result H Why) (s : Setting H) wher
 
       go : (m : Machine) → (IsRefused m → ⊥) → answer_at_end_of m h at ≡ Err r → ⊥
       go (machine.Refused w) live e = live tt
-      go (machine.Between last counts) live e = between counts.functions e
+      go (machine.Between last counts) live e = between counts.functions counts.segments e
         where
-          between : (n : ℕ) → answer_between n h at ≡ Err r → ⊥
-          between zero e = absurd (cc)
-          between (suc n) e = named why.CodeCount (cc (e))
+          between : (n : ℕ) (s : Option ℕ) → answer_between n s h at ≡ Err r → ⊥
+          between (suc n) s e = named why.CodeCount (cc (e))
+          between zero None e = absurd (cc)
+          between zero (Some zero) e = absurd (cc)
+          between zero (Some (suc s)) e = named why.DataCount (cc (e))
       go m live e = named why.Truncated (cc (e))
 
   -- the answer to a whole input

@@ -28,11 +28,11 @@ use Rattle.wm_machine.specs.declared.machine.member.InMember.TheVariants as at
 use Rattle.wm_machine.specs.Items.{Zone, outside, Mark, Marks}
 use Rattle.wm_machine.specs.MarkedForms.{MarkedForm, Empty, Then, Times, Counted, Sized, Filled, Name, nothing_at, outside_mark}
 use Rattle.wm_machine.specs.Sections.{header}
-use Rattle.wm_machine.specs.Grammar.{Items, ModuleForm, Chain, Section, loose, strict}
+use Rattle.wm_machine.specs.Grammar.{ModuleCounts, Items, ModuleForm, Chain, Section, loose, strict}
 use Rattle.wm_machine.specs.Meanings.{CanGoOn, CanEnd, OtherSize}
-use Rattle.wm_machine.specs.exact.Members.{id_of, section_kind_of, member_at_start}
+use Rattle.wm_machine.specs.exact.Members.{id_of, rank_of, section_kind_of, member_at_start}
 use Rattle.wm_machine.specs.exact.MemberSteps.{on_number, member_step}
-use Rattle.wm_machine.specs.exact.Steps.{counts_in, begun_last, custom_after_length, machine_in_custom, custom_step, machine_in_member, machine_after_count, machine_after_paired_count, after_count, begun_section, machine_if_rising, section_start, machine_in_contents, after_size, custom_size, header_step, step_of}
+use Rattle.wm_machine.specs.exact.Steps.{counts_in, is_given, begun_last, custom_after_length, machine_in_custom, custom_step, machine_in_member, machine_after_count, machine_after_paired_count, after_count, begun_section, machine_if_rising, section_start, machine_in_contents, after_size, custom_size, header_step, step_of}
 use Rattle.wm_machine.specs.exact.Runs.{byte_read, ByteRead, MachineState, zone_in, zone_of, state_after, marks, state_at_start}
 use Rattle.wm_machine.specs.exact.Live.{IsRefused}
 use Rattle.wm_machine.proofs.FirstBytes.{Next}
@@ -46,7 +46,7 @@ use Rattle.wm_machine.proofs.OpenMembers.{Comes, some_then, some_times, some_cou
 use Rattle.wm_machine.proofs.Customs.{unnamed, CustomRest, custom_follows}
 use Rattle.wm_machine.proofs.Chains.{left_out, over}
 use Rattle.wm_machine.proofs.MachineStates.{Fits, FitsCustom, FineCustom, custom_fine}
-use Rattle.wm_machine.proofs.WholeMachine.{After, InSize, ListOf, Listed, Later, Within, MachineRest, begin_from, begin_to, machine_follows, run_from, run_to}
+use Rattle.wm_machine.proofs.WholeMachine.{count_item, freely, After, InSize, ListOf, Listed, Later, Within, MachineRest, begin_from, begin_to, machine_follows, run_from, run_to}
 use Rattle.wm_machine.proofs.MachineAndSink.{begin_fits}
 use Rattle.wm_machine.proofs.Fronts.{some_custom, some_listed, some_after, some_size, some_later}
 use Rattle.wm_machine.proofs.FramedBytes.{InContents, Sizes, at_size, one_byte, Framed}
@@ -93,21 +93,24 @@ module _ (c : ℕ) where
 same_refused : (v w : Why) → machine.Refused v ≡ machine.Refused w → v ≡ w
 same_refused v w e = cc
 
--- the end of a module, sizes, names and the number of code entries aside
-module _ (p : Profile) (f : ℕ) where
+-- the end of a module, sizes, names and counts aside
+module _ (p : Profile) (counts : Counts) where
+  abbrev f : ModuleCounts
+  f = freely counts
+
   abbrev code_bytes : List ℕ
   code_bytes = 0x0A ∷ 0x01 ∷ 0x00 ∷ []
 
   abbrev code_marks : Marks
   code_marks = outside_mark None ∷ outside_mark None ∷ outside_mark None ∷ []
 
-  skip : (count id : ℕ) → id ≢ 3 → id ≢ 10 → (b : List ℕ) (k : Marks) → Chain loose p f count (suc id) b k → Chain loose p f (suc count) id b k
-  skip count id x y b k h = left_out loose p f count id (λ e. elim e [ inl a ↦ absurd (x a) | inr a ↦ absurd (y a) ]) b k h
+  skip : (count id : ℕ) → id ≢ 3 → id ≢ 11 → (b : List ℕ) (k : Marks) → Chain loose p f count (suc id) b k → Chain loose p f (suc count) id b k
+  skip count id x y b k h = left_out loose p f count id ((λ e. elim e [ inl a ↦ absurd (x a) | inr a ↦ absurd (y a) ]), (λ e. refl)) b k h
 
-  over_code : Chain loose p f 1 11 [] []
-  over_code = skip 0 11 (λ e. omega (arith, e)) (λ e. omega (arith, e)) [] [] (0, (refl, refl))
+  over_code : Chain loose p f 1 12 [] []
+  over_code = skip 0 12 (λ e. omega (arith, e)) (λ e. omega (arith, e)) [] [] (0, (refl, refl))
 
-  from_code : Chain loose p f 2 10 code_bytes code_marks
+  from_code : Chain loose p f 2 11 code_bytes code_marks
   from_code = record {
     front = [];
     back = code_bytes;
@@ -116,13 +119,13 @@ module _ (p : Profile) (f : ℕ) where
     bytes = refl;
     marks = refl;
     first = (0, (refl, refl));
-    second = record { front = code_bytes; back = []; front_marks = code_marks; back_marks = []; bytes = refl; marks = refl; first = inl no_code; second = over_code };
+    second = record { front = code_bytes; back = []; front_marks = code_marks; back_marks = []; bytes = refl; marks = refl; first = inl ((λ e. absurd (omega (arith, e))), no_code); second = over_code };
   }
     where
       one : SpellsU32 1 (1 ∷ [])
       one = inl (omega arith, omega arith, refl, refl)
 
-      no_code : Section loose p f 10 code_bytes code_marks
+      no_code : Section loose p f 11 code_bytes code_marks
       no_code = record {
         front = 0x0A ∷ [];
         back = 1 ∷ 0 ∷ [];
@@ -143,40 +146,48 @@ module _ (p : Profile) (f : ℕ) where
         };
       }
 
-  from_9 : Chain loose p f 3 9 code_bytes code_marks
-  from_9 = skip 2 9 (λ e. omega (arith, e)) (λ e. omega (arith, e)) code_bytes code_marks from_code
+  from_10 : Chain loose p f 3 10 code_bytes code_marks
+  from_10 = skip 2 10 (λ e. omega (arith, e)) (λ e. omega (arith, e)) code_bytes code_marks from_code
 
-  from_8 : Chain loose p f 4 8 code_bytes code_marks
-  from_8 = skip 3 8 (λ e. omega (arith, e)) (λ e. omega (arith, e)) code_bytes code_marks from_9
+  from_9 : Chain loose p f 4 9 code_bytes code_marks
+  from_9 = skip 3 9 (λ e. omega (arith, e)) (λ e. omega (arith, e)) code_bytes code_marks from_10
 
-  from_7 : Chain loose p f 5 7 code_bytes code_marks
-  from_7 = skip 4 7 (λ e. omega (arith, e)) (λ e. omega (arith, e)) code_bytes code_marks from_8
+  from_8 : Chain loose p f 5 8 code_bytes code_marks
+  from_8 = skip 4 8 (λ e. omega (arith, e)) (λ e. omega (arith, e)) code_bytes code_marks from_9
 
-  from_6 : Chain loose p f 6 6 code_bytes code_marks
-  from_6 = skip 5 6 (λ e. omega (arith, e)) (λ e. omega (arith, e)) code_bytes code_marks from_7
+  from_7 : Chain loose p f 6 7 code_bytes code_marks
+  from_7 = skip 5 7 (λ e. omega (arith, e)) (λ e. omega (arith, e)) code_bytes code_marks from_8
 
-  from_5 : Chain loose p f 7 5 code_bytes code_marks
-  from_5 = skip 6 5 (λ e. omega (arith, e)) (λ e. omega (arith, e)) code_bytes code_marks from_6
+  from_6 : Chain loose p f 7 6 code_bytes code_marks
+  from_6 = skip 6 6 (λ e. omega (arith, e)) (λ e. omega (arith, e)) code_bytes code_marks from_7
 
-  from_4 : Chain loose p f 8 4 code_bytes code_marks
-  from_4 = skip 7 4 (λ e. omega (arith, e)) (λ e. omega (arith, e)) code_bytes code_marks from_5
+  from_5 : Chain loose p f 8 5 code_bytes code_marks
+  from_5 = skip 7 5 (λ e. omega (arith, e)) (λ e. omega (arith, e)) code_bytes code_marks from_6
+
+  from_4 : Chain loose p f 9 4 code_bytes code_marks
+  from_4 = skip 8 4 (λ e. omega (arith, e)) (λ e. omega (arith, e)) code_bytes code_marks from_5
 
 -- after a section
 abbrev Closes : MarkedForm → Type 0
 Closes Q = (rest : List ℕ) × IsEnd rest × (k : Marks) × Q rest k
 
-closing : (p : Profile) (of : SectionKind) (counts : Counts) → Closes (Later loose p (id_of of) counts)
-closing p section_kind.Type counts = ([], inl refl, [], (0, (λ l. absurd (omega (arith, l))), over loose p 0 10 2 (λ i e. refl)))
-closing p section_kind.Import counts = ([], inl refl, [], (0, (λ l. absurd (omega (arith, l))), over loose p 0 9 3 (λ i e. refl)))
-closing p section_kind.Function counts = (code_bytes p counts.functions, inr refl, code_marks p counts.functions, (counts.functions, (λ l. refl), from_4 p counts.functions))
-closing p section_kind.Table counts = (code_bytes p counts.functions, inr refl, code_marks p counts.functions, (counts.functions, (λ l. refl), from_5 p counts.functions))
-closing p section_kind.Memory counts = (code_bytes p counts.functions, inr refl, code_marks p counts.functions, (counts.functions, (λ l. refl), from_6 p counts.functions))
-closing p section_kind.Global counts = (code_bytes p counts.functions, inr refl, code_marks p counts.functions, (counts.functions, (λ l. refl), from_7 p counts.functions))
-closing p section_kind.Export counts = (code_bytes p counts.functions, inr refl, code_marks p counts.functions, (counts.functions, (λ l. refl), from_8 p counts.functions))
-closing p section_kind.Start counts = (code_bytes p counts.functions, inr refl, code_marks p counts.functions, (counts.functions, (λ l. refl), from_9 p counts.functions))
-closing p section_kind.Element counts = (code_bytes p counts.functions, inr refl, code_marks p counts.functions, (counts.functions, (λ l. refl), from_code p counts.functions))
-closing p section_kind.Code counts = ([], inl refl, [], (counts.functions, (λ l. refl), over_code p counts.functions))
-closing p section_kind.Segment counts = ([], inl refl, [], (counts.functions, (λ l. refl), (0, (refl, refl))))
+-- no functions and no data segments
+abbrev nothing : ModuleCounts
+nothing = record { functions = 0; segments = 0 }
+
+closing : (p : Profile) (of : SectionKind) (counts : Counts) → Closes (Later loose p (rank_of of) counts)
+closing p section_kind.Type counts = ([], inl refl, [], (nothing, ((λ l. absurd (omega (arith, l))), (λ d. absurd d)), over loose p nothing 11 2 (λ i. ((λ e. refl), (λ e. refl)))))
+closing p section_kind.Import counts = ([], inl refl, [], (nothing, ((λ l. absurd (omega (arith, l))), (λ d. absurd d)), over loose p nothing 10 3 (λ i. ((λ e. refl), (λ e. refl)))))
+closing p section_kind.Function counts = (code_bytes p counts, inr refl, code_marks p counts, (freely counts, ((λ l. refl), (λ d. absurd d)), from_4 p counts))
+closing p section_kind.Table counts = (code_bytes p counts, inr refl, code_marks p counts, (freely counts, ((λ l. refl), (λ d. absurd d)), from_5 p counts))
+closing p section_kind.Memory counts = (code_bytes p counts, inr refl, code_marks p counts, (freely counts, ((λ l. refl), (λ d. absurd d)), from_6 p counts))
+closing p section_kind.Global counts = (code_bytes p counts, inr refl, code_marks p counts, (freely counts, ((λ l. refl), (λ d. absurd d)), from_7 p counts))
+closing p section_kind.Export counts = (code_bytes p counts, inr refl, code_marks p counts, (freely counts, ((λ l. refl), (λ d. absurd d)), from_8 p counts))
+closing p section_kind.Start counts = (code_bytes p counts, inr refl, code_marks p counts, (freely counts, ((λ l. refl), (λ d. absurd d)), from_9 p counts))
+closing p section_kind.Element counts = (code_bytes p counts, inr refl, code_marks p counts, (freely counts, ((λ l. refl), (λ d. absurd d)), from_10 p counts))
+closing p section_kind.DataCount counts = (code_bytes p counts, inr refl, code_marks p counts, (freely counts, ((λ l. refl), (λ d. absurd d)), from_code p counts))
+closing p section_kind.Code counts = ([], inl refl, [], (freely counts, ((λ l. refl), (λ d. absurd d)), over_code p counts))
+closing p section_kind.Segment counts = ([], inl refl, [], (freely counts, ((λ l. refl), (λ d. absurd d)), (0, (refl, refl))))
 
 -- where no size is looked at
 header_not : (n c : ℕ) → (header_step n c).0 ≡ machine.Refused why.SectionEnd → ⊥
@@ -196,14 +207,14 @@ begun_not section_kind.Segment counts e = at_last counts.functions e
     at_last (suc n) e = cc
 begun_not of counts e = cc
 
-rising_not : (last : ℕ) (counts : Counts) (id : ℕ) (q : Option SectionKind) → (machine_if_rising last counts id q).0 ≡ machine.Refused why.SectionEnd → ⊥
-rising_not last counts id None e = cc
-rising_not last counts id (Some of) e =
-    (cond_both (nat_le id last) _ _ (λ (q : Machine × Event). q.0 ≡ machine.Refused why.SectionEnd → ⊥) (λ _ e. cc) (λ _. begun_not of counts)) e
+rising_not : (last : ℕ) (counts : Counts) (q : Option SectionKind) → (machine_if_rising last counts q).0 ≡ machine.Refused why.SectionEnd → ⊥
+rising_not last counts None e = cc
+rising_not last counts (Some of) e =
+    (cond_both (nat_le (rank_of of) last) _ _ (λ (q : Machine × Event). q.0 ≡ machine.Refused why.SectionEnd → ⊥) (λ _ e. cc) (λ _. begun_not of counts)) e
 
-start_not : (last : ℕ) (counts : Counts) (c : ℕ) → (section_start last counts c).0 ≡ machine.Refused why.SectionEnd → ⊥
-start_not last counts zero e = cc
-start_not last counts (suc m) e = rising_not last counts (suc m) (section_kind_of (suc m)) e
+start_not : (p : Profile) (last : ℕ) (counts : Counts) (c : ℕ) → (section_start p last counts c).0 ≡ machine.Refused why.SectionEnd → ⊥
+start_not p last counts zero e = cc
+start_not p last counts (suc m) e = rising_not last counts (section_kind_of p (suc m)) e
 
 contents_not : (of : SectionKind) (counts : Counts) (more : ℕ) → machine_in_contents of counts more ≡ machine.Refused why.SectionEnd → ⊥
 contents_not section_kind.Start counts more e = cc
@@ -242,6 +253,7 @@ begun_end section_kind.Global counts m n e = cc
 begun_end section_kind.Export counts m n e = cc
 begun_end section_kind.Start counts m n e = cc
 begun_end section_kind.Element counts m n e = cc
+begun_end section_kind.DataCount counts m n e = cc
 begun_end section_kind.Code counts m n e = cc
 begun_end section_kind.Segment counts m n e = cc
 
@@ -250,16 +262,30 @@ listed_end of counts more zero e = inr refl
 listed_end of counts zero (suc n) e = inl refl
 listed_end of counts (suc m) (suc n) e = absurd (begun_end of counts m n e)
 
-paired_end : (of : SectionKind) (counts : Counts) (more n : ℕ) → machine_after_paired_count of counts more n ≡ machine.Refused why.SectionEnd → (more ≡ 0) ⊎ (n ≡ 0)
+-- no member comes after this number
+abbrev IsLast : SectionKind → ℕ → Type 0
+IsLast section_kind.DataCount n = Unit {0}
+IsLast of n = n ≡ 0
+
+paired_end : (of : SectionKind) (counts : Counts) (more n : ℕ) → machine_after_paired_count of counts more n ≡ machine.Refused why.SectionEnd → (more ≡ 0) ⊎ IsLast of n
 paired_end section_kind.Function counts more n e = listed_end section_kind.Function (counts_in section_kind.Function counts n) more n e
+paired_end section_kind.DataCount counts more n e = inr tt
 paired_end section_kind.Code counts more n e =
     (cond_both (nat_eq n counts.functions) _ _ (λ (m : Machine). m ≡ machine.Refused why.SectionEnd → (more ≡ 0) ⊎ (n ≡ 0)) (λ _. listed_end section_kind.Code (counts_in section_kind.Code counts n) more n) (λ _ e. absurd (cc))) e
+paired_end section_kind.Segment counts more n e =
+    (cond_both (is_given counts.segments n) _ _ (λ (m : Machine). m ≡ machine.Refused why.SectionEnd → (more ≡ 0) ⊎ (n ≡ 0)) (λ _. listed_end section_kind.Segment (counts_in section_kind.Segment counts n) more n) (λ _ e. absurd (cc))) e
 paired_end of counts more n e = listed_end of (counts_in of counts n) more n e
 
-none_listed : (p : Profile) (of : SectionKind) (f : ℕ) → ListOf loose p of f 0 [] []
+none_listed : (p : Profile) (of : SectionKind) (f : ModuleCounts) → ListOf loose p of f 0 [] []
 none_listed p section_kind.Function f = ((λ d. absurd d), (refl, refl))
+none_listed p section_kind.DataCount f = ((λ d. absurd d), (refl, refl))
 none_listed p section_kind.Code f = ((λ d. absurd d), (refl, refl))
+none_listed p section_kind.Segment f = ((λ d. absurd d), (refl, refl))
 none_listed p of f = (refl, refl)
+
+last_listed : (p : Profile) (of : SectionKind) (f : ModuleCounts) (n : ℕ) → IsLast of n → ListOf loose p of f n [] []
+last_listed p section_kind.DataCount f n i = ((λ d. absurd d), (refl, refl))
+last_listed p of f n i = subst (λ m. ListOf loose p of f m [] []) (sym i) (none_listed p of f)
 
 module _ (p : Profile) (c : ℕ) (byte : c < 2 ^ 8) where
   -- the size is used up, or bytes of it are left
@@ -275,11 +301,11 @@ module _ (p : Profile) (c : ℕ) (byte : c < 2 ^ 8) where
     in_section more left g =
         let T : MarkedForm = Times left (OneOf loose p of) in
         let W : MarkedForm = Within loose p of left q y in
-        then_goes c (Sized loose (suc more) W) (Later loose p (id_of of) counts) (sized_goes c (suc more) W (then_goes c (ComponentRest loose p q y) T g (some_times left (OneOf loose p of) (some_one p of)))) (some_later p (id_of of) counts)
+        then_goes c (Sized loose (suc more) W) (Later loose p (rank_of of) counts) (sized_goes c (suc more) W (then_goes c (ComponentRest loose p q y) T g (some_times left (OneOf loose p of) (some_one p of)))) (some_later p (rank_of of) counts)
 
     ends_section : (more : ℕ) (m : Mark) → Next loose (ComponentRest loose p q y) c m Empty → Ends c (Here more zero)
     ends_section more m n =
-        sized_ends c (suc more) (Within loose p of zero q y) (Later loose p (id_of of) counts) m
+        sized_ends c (suc more) (Within loose p of zero q y) (Later loose p (rank_of of) counts) m
         (record { front = c ∷ []; back = []; front_marks = m ∷ []; back_marks = []; bytes = refl; marks = refl; first = n.from [] (m ∷ []) ([], refl, (refl, refl)); second = (refl, refl) }) (closing p of counts)
 
     section_cut : (last more left : ℕ) (used : List ℕ) → InContents last (id_of of) more used → CanGo p (suc more) q → IsText (member_step p q c).1 (y ++ c ∷ []) → machine_in_member of counts more left (member_step p q c).0 ≡ machine.Refused why.SectionEnd → Cut (Here more left) used
@@ -313,43 +339,43 @@ module _ (p : Profile) (c : ℕ) (byte : c < 2 ^ 8) where
     abbrev AtCount : ℕ → MarkedForm
     AtCount more = MachineRest loose p (machine.Count of counts more r) y
 
-    count_goes : (more : ℕ) → Goes c (Listed loose p of r counts.functions) → Goes c (AtCount more)
+    count_goes : (more : ℕ) → Goes c (Listed loose p of r (freely counts)) → Goes c (AtCount more)
     count_goes more g =
-        let L : MarkedForm = Listed loose p of r counts.functions in
-        let t = then_goes c (Sized loose (suc more) L) (After loose p of counts.functions) (sized_goes c (suc more) L g) (some_after p of counts.functions) in
-        (t.0, t.1, (counts.functions, (λ l. refl), t.2))
+        let L : MarkedForm = Listed loose p of r (freely counts) in
+        let t = then_goes c (Sized loose (suc more) L) (After loose p of (freely counts)) (sized_goes c (suc more) L g) (some_after p of (freely counts)) in
+        (t.0, t.1, (freely counts, ((λ l. refl), (λ d. absurd d)), t.2))
 
-    count_ends : (more : ℕ) → ((f : ℕ) → Next loose (Listed loose p of r f) c (outside_mark None) (ListOf loose p of f 0)) → Ends c (AtCount more)
-    count_ends more n =
+    count_ends : (more v : ℕ) → IsLast of v → ((f : ModuleCounts) → Next loose (Listed loose p of r f) c (outside_mark (count_item of v)) (ListOf loose p of f v)) → Ends c (AtCount more)
+    count_ends more v i n =
         let l = closing p of counts in
-        let f : ℕ = l.3.0 in
+        let f : ModuleCounts = l.3.0 in
+        let m : Mark = outside_mark (count_item of v) in
         let x = n f in
-        let t = sized_ends c (suc more) (Listed loose p of r f) (After loose p of f) (outside_mark None) (x.from [] (outside_mark None ∷ []) ([], refl, none_listed p of f)) (l.0, l.1, l.2, l.3.2) in
-        (t.0, t.1, t.2, (f, (λ a. l.3.1 (omega (arith, a))), t.3))
+        let t = sized_ends c (suc more) (Listed loose p of r f) (After loose p of f) m (x.from [] (m ∷ []) ([], refl, last_listed p of f v i)) (l.0, l.1, l.2, l.3.2) in
+        (t.0, t.1, t.2, (f, ((λ a. l.3.1.0 (omega (arith, a))), l.3.1.1), t.3))
 
     count_cut : (last more : ℕ) (used : List ℕ) → InContents last (id_of of) more used → HasRoom 32 r → (after_count of counts more (unsigned_push 32 r c)).0 ≡ machine.Refused why.SectionEnd → Cut (AtCount more) used
-    count_cut last more used h room = go (unsigned_push 32 r c) (unsigned_room 32 r c room byte) (λ f. counted_next loose nothing_at (ListOf loose p of f) r c byte) more h
+    count_cut last more used h room = go (unsigned_push 32 r c) (unsigned_room 32 r c room byte) (λ f. counted_next loose (count_item of) (ListOf loose p of f) r c byte) more h
       where
-        go : (x : Step ℕ × Partial) → RoomAfter 32 x → ((f : ℕ) → CountedNext loose nothing_at (ListOf loose p of f) r c x) → (m : ℕ) → InContents last (id_of of) m used → (after_count of counts m x).0 ≡ machine.Refused why.SectionEnd → Cut (AtCount m) used
+        go : (x : Step ℕ × Partial) → RoomAfter 32 x → ((f : ModuleCounts) → CountedNext loose (count_item of) (ListOf loose p of f) r c x) → (m : ℕ) → InContents last (id_of of) m used → (after_count of counts m x).0 ≡ machine.Refused why.SectionEnd → Cut (AtCount m) used
         go (More, s) a n zero h e =
-            let L : MarkedForm = Listed loose p of s counts.functions in
-            inl (last, id_of of, h, count_goes zero (next_goes c (Listed loose p of r counts.functions) L (outside_mark None) (n counts.functions) (some_counted nothing_at (ListOf loose p of counts.functions) s a (some_listed p of counts.functions))))
+            let L : MarkedForm = Listed loose p of s (freely counts) in
+            inl (last, id_of of, h, count_goes zero (next_goes c (Listed loose p of r (freely counts)) L (outside_mark None) (n (freely counts)) (some_counted (count_item of) (ListOf loose p of (freely counts)) s a (some_listed p of (freely counts)))))
         go (More, s) a n (suc m) h e = absurd (cc)
-        go (Done v, s) a n zero h e = inl (last, id_of of, h, count_goes zero (next_goes c (Listed loose p of r counts.functions) (ListOf loose p of counts.functions v) (outside_mark None) (n counts.functions) (some_listed p of counts.functions v)))
-        go (Done zero, s) a n (suc m) h e = inr (last, id_of of, m, h, count_ends (suc m) n)
-        go (Done (suc v), s) a n (suc m) h e = absurd (elim (paired_end of counts (suc m) (suc v) e) [ inl i ↦ omega (arith, i) | inr i ↦ omega (arith, i) ])
+        go (Done v, s) a n zero h e = inl (last, id_of of, h, count_goes zero (next_goes c (Listed loose p of r (freely counts)) (ListOf loose p of (freely counts) v) (outside_mark (count_item of v)) (n (freely counts)) (some_listed p of (freely counts) v)))
+        go (Done v, s) a n (suc m) h e = elim (paired_end of counts (suc m) v e) [ inl i ↦ absurd (omega (arith, i)) | inr i ↦ inr (last, id_of of, m, h, count_ends (suc m) v i n) ]
         go (Bad, s) a n m h e = absurd (cc)
 
   -- at its size
   size_cut : (last : ℕ) (of : SectionKind) (counts : Counts) (r : Partial) (y used : List ℕ) → Sizes last counts (id_of of) used (unsigned_push 32 r c) → (step_of p (machine.Size of counts r) c).0 ≡ machine.Refused why.SectionEnd → Cut (MachineRest loose p (machine.Size of counts r) y) used
-  size_cut last of counts r y used = go (unsigned_push 32 r c) (counted_next loose nothing_at (InSize loose p of counts.functions) r c byte)
+  size_cut last of counts r y used = go (unsigned_push 32 r c) (counted_next loose nothing_at (InSize loose p of (freely counts)) r c byte)
     where
-      go : (x : Step ℕ × Partial) → CountedNext loose nothing_at (InSize loose p of counts.functions) r c x → Sizes last counts (id_of of) used x
+      go : (x : Step ℕ × Partial) → CountedNext loose nothing_at (InSize loose p of (freely counts)) r c x → Sizes last counts (id_of of) used x
           → (on_number x (λ s. machine.Size of counts s) (λ n. (after_size of counts n, event.Nothing)) machine.Refused).0 ≡ machine.Refused why.SectionEnd → Cut (MachineRest loose p (machine.Size of counts r) y) used
       go (More, s) n h e = absurd (cc)
       go (Done zero, s) n h e =
-          let g = next_goes c (Counted (Left r) nothing_at (InSize loose p of counts.functions)) (InSize loose p of counts.functions 0) (outside_mark None) n (some_size p of counts.functions 0) in
-          inl (last, id_of of, h.0, (g.0, g.1, (counts.functions, (λ l. refl), g.2)))
+          let g = next_goes c (Counted (Left r) nothing_at (InSize loose p of (freely counts))) (InSize loose p of (freely counts) 0) (outside_mark None) n (some_size p of (freely counts) 0) in
+          inl (last, id_of of, h.0, (g.0, g.1, (freely counts, ((λ l. refl), (λ d. absurd d)), g.2)))
       go (Done (suc v), s) n h e = absurd (contents_not of counts v e)
       go (Bad, s) n h e = absurd (cc)
 
@@ -393,7 +419,7 @@ module _ (p : Profile) (c : ℕ) (byte : c < 2 ^ 8) where
 
   cut_says : (m : Machine) (b y : List ℕ) → Fits p m → (IsRefused m → ⊥) → Framed m b → IsText (step_of p m c).1 (y ++ c ∷ []) → (step_of p m c).0 ≡ machine.Refused why.SectionEnd → Cut (MachineRest loose p m y) (b ++ c ∷ [])
   cut_says (machine.Header n) b y fits live f text e = absurd (header_not n c e)
-  cut_says (machine.Between last counts) b y fits live f text e = absurd (start_not last counts c e)
+  cut_says (machine.Between last counts) b y fits live f text e = absurd (start_not p last counts c e)
   cut_says (machine.CustomSize last counts r) b y fits live f text e = custom_size_cut last counts r y (b ++ c ∷ []) (at_size last counts 0 r b c byte f.0 f.1) e
   cut_says (machine.Custom last counts more q) b y fits live f text e = custom_cut last counts more q y (b ++ c ∷ []) (one_byte last 0 more b c f.0) fits.1 text e
   cut_says (machine.Size of counts r) b y fits live f text e = size_cut f.0 of counts r y (b ++ c ∷ []) (at_size f.0 counts (id_of of) r b c byte f.2 f.3) e

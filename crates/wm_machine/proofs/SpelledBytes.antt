@@ -1,5 +1,8 @@
 -- Everything that is spelled consists of bytes.
 use Rattle.std.proofs.Common.{ℕ, zero, suc, ◌<◌, ◌/◌, ◌%◌, ◌^◌, ℤ, List, [], ◌∷◌, Option, Some, None, length, sym, subst, arith, inl, inr, ◌-◌, Bool, true, false}
+use Rattle.wm_machine.specs.Sections.{SpellsMemory}
+use Rattle.wm_syntax.specs.Profiles.{has}
+use Rattle.wm_syntax.specs.declared.profile.Feature.TheVariants.{BulkMemory}
 use Rattle.wm_syntax.specs.declared.types.ValType.{ValType}
 use Rattle.wm_syntax.specs.declared.types.ValType.TheVariants.{I32, I64, F32, F64}
 use Rattle.wm_syntax.specs.declared.types.Limits.{Limits}
@@ -14,22 +17,25 @@ use Rattle.wm_syntax.specs.declared.modules.ExportKind.{ExportKind}
 use Rattle.wm_syntax.specs.declared.modules.ExportKind.TheVariants as kind
 use Rattle.wm_syntax.specs.declared.profile.Profile.{Profile}
 use Rattle.wm_syntax.proofs.CodeBytes.{code_forms}
-use Rattle.wm_syntax.proofs.ProfileLaws.{every_extends, module_of_every}
 use Rattle.wm_syntax.specs.Spelling.{Form, Byte, Exactly, AreBytes, Each, ◌▸◌}
 use Rattle.wm_syntax.specs.Leb128.{Unsigned, Signed}
 use Rattle.wm_syntax.specs.Types.{Signature, SpellsU32, SpellsBytes, SpellsName, SpellsList, SpellsValType, SpellsBlockType, SpellsSignature, SpellsBounds, SpellsLimits, SpellsTableType, SpellsVar, SpellsGlobalType}
-use Rattle.wm_syntax.specs.Encodings.{SpellsOpcode, SpellsFloat, SpellsImmediates, SpellsOp, SpellsTable}
-use Rattle.wm_syntax.specs.Profiles.{HasSignature, every}
+use Rattle.wm_syntax.specs.Encodings.{SpellsOpcode, SpellsExpression, SpellsFloat, SpellsImmediates, SpellsOp, SpellsTable}
+use Rattle.wm_syntax.specs.Profiles.{HasSignature}
 use Rattle.wm_syntax.specs.Opcodes.{opcode}
-use Rattle.wm_syntax.specs.Modules.{Import, Module}
-use Rattle.wm_machine.specs.Sections.{Sized, Those, Section, ListSection, StartSection, Customs, SpellsCustom, header, SpellsDesc, SpellsImport, SpellsExport, SpellsRun, SpellsModule, kind_byte}
+use Rattle.wm_syntax.specs.Modules.{Import, Module, bodies_name_segment, constant_body, index_of}
+use Rattle.wm_syntax.specs.declared.modules.SegmentMode.{SegmentMode}
+use Rattle.wm_syntax.specs.declared.modules.SegmentMode.TheVariants.{Passive, Active}
+use Rattle.wm_syntax.specs.Instructions.{Instructions}
+use Rattle.wm_syntax.proofs.Flat.{ops_of_instructions}
+use Rattle.wm_machine.specs.Sections.{Sized, Those, Section, ListSection, StartSection, Customs, SpellsCustom, header, SpellsDesc, SpellsImport, SpellsExport, SpellsRun, SpellsModule, kind_byte, SpellsGlobal, SpellsElement, SpellsLocals, SpellsCode, SpellsOffset, SpellsSegment, DataCountSection}
 use Rattle.wm_machine.specs.Items.{Marks}
 use Rattle.wm_machine.specs.Grammar.{strict, ModuleForm as Whole}
 use Rattle.wm_machine.specs.Grammar.{HasGlobalType}
-use Rattle.wm_machine.specs.Flat.{HasImport, SpellsOps, SpellsFlatGlobal, SpellsFlatElement, SpellsFlatCode, SpellsFlatSegment, FlatModule, InOrder, flat_sections, SpellsFlat}
+use Rattle.wm_machine.specs.Flat.{FlatDataCount, HasImport, SpellsFlatOffset, SpellsOps, SpellsFlatGlobal, SpellsFlatElement, SpellsFlatCode, SpellsFlatSegment, FlatModule, InOrder, flat_sections, SpellsFlat}
 use Rattle.wm_machine.proofs.ByteLists.{bytes-append}
 use Rattle.wm_machine.proofs.GrammarValues.{items_to}
-use Rattle.wm_machine.proofs.Nesting.{flat_to, spells_more}
+use Rattle.wm_machine.specs.Sections.{SpellsElements}
 
 -- what the form describes consists of bytes
 abbrev InBytes : Form ℕ → Type 0
@@ -129,6 +135,11 @@ in_immediates p s.MemorySize = in_byte 0x00 (omega arith)
 in_immediates p s.MemoryGrow = in_byte 0x00 (omega arith)
 in_immediates p s.MemoryCopy = in_then (in_byte 0x00 (omega arith)) (in_byte 0x00 (omega arith))
 in_immediates p s.MemoryFill = in_byte 0x00 (omega arith)
+in_immediates p (s.MemoryInit x) = in_then (in_u32 x) (in_byte 0x00 (omega arith))
+in_immediates p (s.DataDrop x) = in_u32 x
+in_immediates p (s.TableInit x) = in_then (in_u32 x) (in_u32 0)
+in_immediates p (s.ElemDrop x) = in_u32 x
+in_immediates p s.TableCopy = in_then (in_u32 0) (in_u32 0)
 in_immediates p (s.I32Const n) = in_signed 32 n
 in_immediates p (s.I64Const n) = in_signed 64 n
 in_immediates p (s.F32Const n) = in_float 4 n
@@ -161,8 +172,19 @@ in_start : (x : Option ℕ) → InBytes (StartSection x)
 in_start None = in_none
 in_start (Some x) = in_section 8 (omega arith) (in_u32 x)
 
+in_count : (p : Profile) (n : ℕ) (x : Option ℕ) → InBytes (FlatDataCount p n x)
+in_count p n None = in_none
+in_count p n (Some count) = λ b h. in_section 12 (omega arith) (in_u32 count) b h.2
+
 in_customs : InBytes Customs
 in_customs b h = in_each SpellsCustom (λ c. in_section 0 (omega arith) (in_then (in_name c.name) (λ b h. h.1))) h.0 b h.1
+
+-- one section, with what comes before it and after it
+in_next : {P Q : Form ℕ} → InBytes P → InBytes Q → InBytes (Customs ▸ P ▸ Q)
+in_next p q = in_then in_customs (in_then p q)
+
+in_header : InBytes (Exactly header)
+in_header b h = subst AreBytes (sym h) (omega arith, (omega arith, (omega arith, (omega arith, (omega arith, (omega arith, (omega arith, (omega arith, tt))))))))
 
 in_desc : (d : ImportDesc) → InBytes (SpellsDesc d)
 in_desc (desc.Func x) = in_then (in_byte 0x00 (omega arith)) (in_u32 x)
@@ -179,6 +201,21 @@ in_import i = in_then (in_name i.module_name) (in_then (in_name i.item_name) (in
 in_run : (p : Profile) (r : ℕ × ValType) → InBytes (SpellsRun p r)
 in_run p r b h = in_then {P = SpellsU32 r.0} {Q = SpellsValType r.1} (in_u32 r.0) (in_type r.1) b h.1
 
+in_memory : (flagged : Bool) (memory : Option ℕ) → InBytes (SpellsMemory flagged memory)
+in_memory false None = λ b h. absurd h
+in_memory false (Some x) = in_u32 x
+in_memory true None = in_u32 1
+in_memory true (Some x) = λ b h. elim h [ inl z ↦ in_u32 0 b z.1 | inr i ↦ in_then (in_u32 2) (in_u32 x) b i ]
+
+in_elements : (flagged : Bool) (table : Option ℕ) (P : Form ℕ) → InBytes P → (functions : List ℕ) → InBytes (SpellsElements flagged table P functions)
+in_elements false None P o functions = λ b h. absurd h
+in_elements false (Some x) P o functions = in_then (in_u32 x) (in_then o (in_list SpellsU32 in_u32 functions))
+in_elements true None P o functions = in_then (in_u32 1) (in_then o (in_then (in_byte 0x00 (omega arith)) (in_list SpellsU32 in_u32 functions)))
+in_elements true (Some x) P o functions = λ b h. elim h [
+  | inl z ↦ in_then (in_u32 0) (in_then o (in_list SpellsU32 in_u32 functions)) b z.1
+  | inr i ↦ in_then (in_u32 2) (in_then (in_u32 x) (in_then o (in_then (in_byte 0x00 (omega arith)) (in_list SpellsU32 in_u32 functions)))) b i
+]
+
 in_kind : (k : ExportKind) → InBytes (Byte (kind_byte k))
 in_kind kind.Func = in_byte 0x00 (omega arith)
 in_kind kind.Table = in_byte 0x01 (omega arith)
@@ -189,9 +226,13 @@ module _ (p : Profile) where
   in_ops : (ops : List Op) → InBytes (SpellsOps p ops)
   in_ops ops b h = in_each (SpellsOp p) (in_op p) ops b h.2
 
+  in_offset : (memory : Option ℕ) (ops : List Op) → InBytes (SpellsFlatOffset p memory ops)
+  in_offset None ops = λ b h. in_none b h.1
+  in_offset (Some x) ops = in_ops ops
+
   in_flat : (v : FlatModule) → InBytes (Exactly header ▸ InOrder (flat_sections p v))
   in_flat v =
-      in_then (λ b h. subst AreBytes (sym h) (omega arith, (omega arith, (omega arith, (omega arith, (omega arith, (omega arith, (omega arith, (omega arith, tt)))))))))
+      in_then in_header
       (in_next (in_listed (Those (HasSignature p) SpellsSignature) 1 (omega arith) (λ f b h. in_signature f b h.1) v.types)
       (in_next (in_listed (Those (HasImport p) SpellsImport) 2 (omega arith) (λ i b h. in_import i b h.1) v.imports)
       (in_next (in_listed SpellsU32 3 (omega arith) in_u32 v.functions)
@@ -200,13 +241,11 @@ module _ (p : Profile) where
       (in_next (in_listed (SpellsFlatGlobal p) 6 (omega arith) (λ g. in_then {P = Those (HasGlobalType p) SpellsGlobalType g.ty} {Q = SpellsOps p g.init} (λ b h. in_global_type g.ty b h.1) (in_ops g.init)) v.globals)
       (in_next (in_listed SpellsExport 7 (omega arith) (λ e. in_then (in_name e.name) (in_then (in_kind e.kind) (in_u32 e.index))) v.exports)
       (in_next (in_start v.start)
-      (in_next (in_listed (SpellsFlatElement p) 9 (omega arith) (λ e. in_then (in_u32 e.table) (in_then (in_ops e.offset) (in_list SpellsU32 in_u32 e.functions))) v.elements)
+      (in_next (in_listed (SpellsFlatElement p) 9 (omega arith) (λ e. in_elements (has p BulkMemory) e.table (SpellsFlatOffset p e.table e.offset) (in_offset e.table e.offset) e.functions) v.elements)
+      (in_next (in_count p (length v.segments) v.data_count)
       (in_next (in_listed (SpellsFlatCode p) 10 (omega arith) (λ c. in_sized (in_then (in_list (SpellsRun p) (in_run p) c.runs) (in_ops c.ops))) v.codes)
-      (in_next (in_listed (SpellsFlatSegment p) 11 (omega arith) (λ s. in_then (in_u32 s.memory) (in_then (in_ops s.offset) (in_bytes s.bytes))) v.segments)
-      in_customs)))))))))))
-    where
-      in_next : {P Q : Form ℕ} → InBytes P → InBytes Q → InBytes (Customs ▸ P ▸ Q)
-      in_next p q = in_then in_customs (in_then p q)
+      (in_next (in_listed (SpellsFlatSegment p) 11 (omega arith) (λ s. in_then (in_memory (has p BulkMemory) s.memory) (in_then (in_offset s.memory s.offset) (in_bytes s.bytes))) v.segments)
+      in_customs))))))))))))
 
   pub flat_bytes : (v : FlatModule) (b : List ℕ) → SpellsFlat p v b → AreBytes b
   flat_bytes v b h = in_flat v b h.1
@@ -214,7 +253,33 @@ module _ (p : Profile) where
   pub whole_bytes : (b : List ℕ) (k : Marks) → Whole strict p b k → AreBytes b
   whole_bytes b k h = let u = items_to p b k h in flat_bytes u.0 b u.1
 
-pub spelled_bytes : (p : Profile) (m : Module) (b : List ℕ) → SpellsModule p m b → AreBytes b
-spelled_bytes p m b h =
-    let u = flat_to every m b (spells_more p every (every_extends p) m b h) (module_of_every m) in
-    flat_bytes every u.0 b u.2
+  -- the same of a module value
+  in_expression : (s : Instructions) → InBytes (SpellsExpression p s)
+  in_expression s = in_then (λ b h. let u = ops_of_instructions p s b h in in_each (SpellsOp p) (in_op p) u.0 b u.2) (in_byte 0x0B (omega arith))
+
+  in_mode : (d : SegmentMode) → InBytes (SpellsOffset p d)
+  in_mode Passive = in_none
+  in_mode (Active x c) = in_expression (constant_body c)
+
+  in_locals : (types : List ValType) → InBytes (SpellsLocals p types)
+  in_locals types b h = in_list (SpellsRun p) (in_run p) h.0 b h.3
+
+  in_count_section : (named : Bool) (n : ℕ) → InBytes (DataCountSection p named n)
+  in_count_section named n b h = elim h [ inl s ↦ in_section 12 (omega arith) (in_u32 n) b s.1 | inr e ↦ in_none b e.1 ]
+
+  pub spelled_bytes : (m : Module) (b : List ℕ) → SpellsModule p m b → AreBytes b
+  spelled_bytes m =
+      in_then in_header
+      (in_next (in_listed SpellsSignature 1 (omega arith) in_signature m.types)
+      (in_next (in_listed SpellsImport 2 (omega arith) in_import m.imports)
+      (in_next (in_listed (λ f. SpellsU32 f.type_index) 3 (omega arith) (λ f. in_u32 f.type_index) m.functions)
+      (in_next (in_listed SpellsTableType 4 (omega arith) in_table m.tables)
+      (in_next (in_listed SpellsLimits 5 (omega arith) in_limits m.memories)
+      (in_next (in_listed (SpellsGlobal p) 6 (omega arith) (λ g. in_then (in_global_type g.ty) (in_expression (constant_body g.init))) m.globals)
+      (in_next (in_listed SpellsExport 7 (omega arith) (λ e. in_then (in_name e.name) (in_then (in_kind e.kind) (in_u32 e.index))) m.exports)
+      (in_next (in_start m.start)
+      (in_next (in_listed (SpellsElement p) 9 (omega arith) (λ e. in_elements (has p BulkMemory) (index_of e.mode) (SpellsOffset p e.mode) (in_mode e.mode) e.functions) m.elements)
+      (in_next (in_count_section (bodies_name_segment m.functions) (length m.segments))
+      (in_next (in_listed (SpellsCode p) 10 (omega arith) (λ f. in_sized (in_then (in_locals f.locals) (in_expression f.body))) m.functions)
+      (in_next (in_listed (SpellsSegment p) 11 (omega arith) (λ s. in_then (in_memory (has p BulkMemory) (index_of s.mode)) (in_then (in_mode s.mode) (in_bytes s.bytes))) m.segments)
+      in_customs))))))))))))

@@ -1,12 +1,14 @@
--- The table index of a call_indirect: the byte 00, before which bytes 80 may come under profiles with long indices.
+-- A table index: the byte 00, before which bytes 80 may come under profiles with a feature.
 use Rattle.std.proofs.Common.{◌≡◌, ◌⊎◌, ℕ, zero, suc, ◌-◌, ◌*◌, ◌+◌, ◌<◌, ◌≤◌, Bool, true, false, IsTrue, List, [], ◌∷◌, refl, sym, ap, ◌∙◌, subst, inl, inr, arith, pow_pos}
 use Rattle.std.specs.Prelude.{IsFalse}
 use Rattle.wm_syntax.specs.declared.profile.Profile.{Profile}
+use Rattle.wm_syntax.specs.declared.profile.Feature.{Feature}
 use Rattle.wm_syntax.specs.declared.profile.Feature.TheVariants.{LongIndex}
 use Rattle.wm_syntax.specs.Profiles.{has}
 use Rattle.wm_syntax.specs.Spelling.{Form}
 use Rattle.wm_syntax.specs.Leb128.{Unsigned}
 use Rattle.wm_syntax.specs.Encodings.{SpellsTable}
+use Rattle.wm_syntax.specs.Types.{SpellsU32}
 use Rattle.wm_machine.proofs.FirstBytes.{head_same, tail_same}
 
 pub bool_cases : (b : Bool) → IsTrue b ⊎ IsFalse b
@@ -41,15 +43,15 @@ spelled_zeros (suc left) bits l (c ∷ b) (inr (large, byte, some, high, is, res
     let none : high ≡ 0 = omega (arith, large, is) in
     inr (b, ap (λ x. x ∷ b) first, spelled_zeros left (bits - 7) (omega (arith, l)) b (subst (λ n. Unsigned (bits - 7) n b) none rest))
 
--- the rest of the table index
-abbrev pub TableRest : Profile → ℕ → Form ℕ
-TableRest p left b = (b ≡ 0 ∷ []) ⊎ (IsTrue (has p LongIndex) × Zeros left b)
+-- the rest of a table index that may be long with this feature
+abbrev pub TableRest : Profile → Feature → ℕ → Form ℕ
+TableRest p feature left b = (b ≡ 0 ∷ []) ⊎ (IsTrue (has p feature) × Zeros left b)
 
-pub table_begun : (p : Profile) (b : List ℕ) → SpellsTable p b → TableRest p 4 b
+pub table_begun : (p : Profile) (b : List ℕ) → SpellsTable p b → TableRest p LongIndex 4 b
 table_begun p b (inl e) = inl e
 table_begun p b (inr h) = inr (h.0, spelled_zeros 4 32 (omega arith) b h.1)
 
-pub table_whole : (p : Profile) (b : List ℕ) → TableRest p 4 b → SpellsTable p b
+pub table_whole : (p : Profile) (b : List ℕ) → TableRest p LongIndex 4 b → SpellsTable p b
 table_whole p b (inl e) = inl e
 table_whole p b (inr h) = inr (h.0, zeros_spell 4 32 (omega arith) b h.1)
 
@@ -59,9 +61,9 @@ zeros_ended zero c b z e = tail_same c 0 b [] e
 zeros_ended (suc left) c b z (inl e) = tail_same c 0 b [] e
 zeros_ended (suc left) c b z (inr (more, e, h)) = let f : c ≡ 0x80 = head_same c 0x80 b more e in absurd (omega (arith, z, f))
 
-pub table_ended : (p : Profile) (left c : ℕ) (b : List ℕ) → c ≡ 0 → TableRest p left (c ∷ b) → b ≡ []
-table_ended p left c b z (inl e) = tail_same c 0 b [] e
-table_ended p left c b z (inr h) = zeros_ended left c b z h.1
+pub table_ended : (p : Profile) (feature : Feature) (left c : ℕ) (b : List ℕ) → c ≡ 0 → TableRest p feature left (c ∷ b) → b ≡ []
+table_ended p feature left c b z (inl e) = tail_same c 0 b [] e
+table_ended p feature left c b z (inr h) = zeros_ended left c b z h.1
 
 pub zeros_on : (left c : ℕ) (b : List ℕ) → c ≡ 0x80 → Zeros left b → Zeros (suc left) (c ∷ b)
 zeros_on left c b e h = inr (b, ap (λ x. x ∷ b) e, h)
@@ -73,9 +75,16 @@ zeros_off left c b n (inr (more, e, h)) = (head_same c 0x80 b more e, subst (Zer
 pub no_zeros : (c : ℕ) (b : List ℕ) → (c ≡ 0 → ⊥) → Zeros zero (c ∷ b) → ⊥
 no_zeros c b n e = n (head_same c 0 b [] e)
 
-pub table_zeros : (p : Profile) (left : ℕ) (b : List ℕ) → TableRest p left b → Zeros left b
-table_zeros p left b (inl e) = one_zero left b e
-table_zeros p left b (inr h) = h.1
+pub table_zeros : (p : Profile) (feature : Feature) (left : ℕ) (b : List ℕ) → TableRest p feature left b → Zeros left b
+table_zeros p feature left b (inl e) = one_zero left b e
+table_zeros p feature left b (inr h) = h.1
+
+-- a whole one under a profile with the feature
+pub index_begun : (p : Profile) (feature : Feature) → IsTrue (has p feature) → (b : List ℕ) → SpellsU32 0 b → TableRest p feature 4 b
+index_begun p feature y b u = inr (y, spelled_zeros 4 32 (omega arith) b u)
+
+pub index_whole : (p : Profile) (feature : Feature) (b : List ℕ) → TableRest p feature 4 b → SpellsU32 0 b
+index_whole p feature b h = zeros_spell 4 32 (omega arith) b (table_zeros p feature 4 b h)
 
 pub zeros_nil : (left : ℕ) → Zeros left [] → ⊥
 zeros_nil zero e = cc

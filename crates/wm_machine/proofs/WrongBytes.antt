@@ -28,7 +28,7 @@ use Rattle.wm_machine.proofs.OpSound.{SoundOp}
 use Rattle.std.specs.List.{AllByRecursion}
 use Rattle.wm_machine.specs.declared.step.reading.Reading.{Reading}
 use Rattle.wm_machine.specs.declared.step.reading.Reading.TheVariants.{More, Done, Bad}
-use Rattle.wm_machine.specs.declared.step.ops.BlockOp.{BlockOp}
+use Rattle.wm_syntax.specs.declared.instructions.op_class.BlockOp.{BlockOp}
 use Rattle.wm_machine.specs.declared.step.ops.InOp.{InOp}
 use Rattle.wm_machine.specs.declared.step.ops.InOp.TheVariants as at
 use Rattle.wm_machine.specs.declared.step.values.InLimits.{InLimits}
@@ -48,7 +48,8 @@ use Rattle.wm_machine.specs.declared.step.values.InValue.TheVariants as value
 use Rattle.wm_machine.specs.declared.machine.Plain.TheVariants as plain
 use Rattle.wm_machine.specs.exact.Readings.{Goes}
 use Rattle.wm_machine.specs.exact.ValueSteps.{read_number, map_reading, after_min, limits_push, table_type_push, type_under, value_type_of, read_type, global_type_push, desc_push, target_push, run_push, value_push}
-use Rattle.wm_machine.specs.exact.OpSteps.{block_op, index_op, memory_op, const_32_op, const_64_op, on_answer, class_step, begin_step, padded, code_step, more_padding, padding_step, block_step, first_zero_step, closing_step, long_step, table_step, op_push}
+use Rattle.wm_machine.specs.exact.OpSteps.{init_op, const_32_op, const_64_op, on_answer, class_step, begin_step, padded, code_step, more_padding, padding_step, block_step, first_zero_step, closing_step, table_feature, after_table, long_step, table_step, op_push}
+use Rattle.wm_syntax.specs.exact.OpShapes.{block_op, index_op, memory_op}
 use Rattle.wm_machine.specs.Meanings.{Wanted, spelled, an_instruction, a_code, a_value_type, a_block_type, an_element_type, a_flag, a_kind, a_zero, IsFloatType, IsNoInstruction, BeginsFloat, IsOtherByte}
 use Rattle.wm_machine.proofs.CodesAtHand.{CodeOp}
 use Rattle.wm_machine.proofs.FirstBytes.{head_same}
@@ -56,7 +57,8 @@ use Rattle.wm_machine.proofs.Leaves.{IsReader}
 use Rattle.wm_machine.proofs.OpRest.{op_rest, at_offset}
 use Rattle.wm_machine.proofs.ValueBytes.{limits_rest, table_rest, global_rest, desc_rest, target_rest, run_rest, value_rest, export_of, type_answer, type_given, TypeAnswer}
 use Rattle.wm_machine.proofs.MustStand.{ValuesBegin, within, code_begins, copied_begins, eighties, op_begins, padding, padding_begins, block_begins, closed_begins, table_index_begins, limits_begin, table_begins, global_begins, var_begins, desc_begins, target_begins, run_begins}
-use Rattle.wm_syntax.specs.declared.profile.Feature.TheVariants.{LongIndex}
+use Rattle.wm_machine.specs.declared.step.ops.TableOp.{TableOp}
+use Rattle.wm_machine.specs.declared.step.ops.TableOp.TheVariants as table_at
 
 -- what is found of the byte, where F says of what that it must stand here
 abbrev pub Found : (Wanted → Type 0) → (Wanted → ℕ → Type 0) → ℕ → Type 0
@@ -98,7 +100,7 @@ not_float_op p c byte e f = go (slice_get classes c) refl e
     go : (row : Option OpClass) → slice_get classes c ≡ row → row_in p row ≡ None → ⊥
     go (Some x) r e = float_not_none p c x r f e
     go Nothing r e =
-        let long : length classes ≡ 268 = refl in
+        let long : length classes ≡ 271 = refl in
         nothing_there (get_or classes c None) (sym r ∙ slice_get-get_or classes c None (omega (arith, byte, long)))
 
 inner_bad : {R S X Y : Type 0} (f : R → S) (g : X → Y) (q : Reading R X) (w : Why) → map_reading f g q ≡ Bad w → q ≡ Bad w
@@ -291,18 +293,24 @@ module _ (p : Profile) (b : List ℕ) (c : ℕ) (w : Why) where
       let F : Wanted → Type 0 = At (op_rest p at.FirstZero) in
       cond_both (nat_eq c 0x00) _ _ (λ (q : Reading InOp Op). q ≡ Bad w → Says b F c w) (λ _ e. absurd (cc)) (λ _ e. as_named b F c why.BadByte w (a_zero, copied_begins p, tt) (same_bad why.BadByte w e))
 
-  long_says : (n left : ℕ) → long_step n left c ≡ Bad w → Says b (At (op_rest p (at.CallTable n left))) c w
-  long_says n zero = λ e. as_named b (At (op_rest p (at.CallTable n zero))) c why.BadNumber w tt (same_bad why.BadNumber w e)
-  long_says n (suc left) =
-      let F : Wanted → Type 0 = At (op_rest p (at.CallTable n (suc left))) in
+  long_says : (t : TableOp) (left : ℕ) → long_step t left c ≡ Bad w → Says b (At (op_rest p (at.Table t left))) c w
+  long_says t zero = λ e. as_named b (At (op_rest p (at.Table t zero))) c why.BadNumber w tt (same_bad why.BadNumber w e)
+  long_says t (suc left) =
+      let F : Wanted → Type 0 = At (op_rest p (at.Table t (suc left))) in
       cond_both (nat_eq c 0x80) _ _ (λ (q : Reading InOp Op). q ≡ Bad w → Says b F c w) (λ _ e. absurd (cc)) (λ _ e. as_named b F c why.BadNumber w tt (same_bad why.BadNumber w e))
 
-  index_says : (n left : ℕ) → table_step p n left c ≡ Bad w → Says b (At (op_rest p (at.CallTable n left))) c w
-  index_says n left =
-      let F : Wanted → Type 0 = At (op_rest p (at.CallTable n left)) in
-      cond_both (nat_eq c 0x00) _ _ (λ (q : Reading InOp Op). q ≡ Bad w → Says b F c w) (λ _ e. absurd (cc))
-      (λ _. cond_both (has p LongIndex) _ _ (λ (q : Reading InOp Op). q ≡ Bad w → Says b F c w) (λ _. long_says n left)
-      (λ k e. as_named b F c why.BadByte w (a_zero, table_index_begins p k n left, tt) (same_bad why.BadByte w e)))
+  after_good : (t : TableOp) → after_table t ≡ Bad w → ⊥
+  after_good (table_at.Call n) e = cc
+  after_good (table_at.Init n) e = cc
+  after_good table_at.CopyTo e = cc
+  after_good table_at.CopyFrom e = cc
+
+  index_says : (t : TableOp) (left : ℕ) → table_step p t left c ≡ Bad w → Says b (At (op_rest p (at.Table t left))) c w
+  index_says t left =
+      let F : Wanted → Type 0 = At (op_rest p (at.Table t left)) in
+      cond_both (nat_eq c 0x00) _ _ (λ (q : Reading InOp Op). q ≡ Bad w → Says b F c w) (λ _ e. absurd (after_good t e))
+      (λ _. cond_both (has p (table_feature t)) _ _ (λ (q : Reading InOp Op). q ≡ Bad w → Says b F c w) (λ _. long_says t left)
+      (λ k e. as_named b F c why.BadByte w (a_zero, table_index_begins p t k left, tt) (same_bad why.BadByte w e)))
 
   pub op_says : c < 2 ^ 8 → (r : InOp) → SoundOp p r → CodeOp r b → op_push p r c ≡ Bad w → Says b (At (op_rest p r)) c w
   op_says byte at.First sound code = begin_says byte
@@ -310,8 +318,11 @@ module _ (p : Profile) (b : List ℕ) (c : ℕ) (w : Why) where
   op_says byte (at.Padding n left) sound code = padding_says n left sound code
   op_says byte (at.BlockType i) sound code = block_says b (At (op_rest p (at.BlockType i))) c w p (block_begins p i) i
   op_says byte (at.Index i r) sound code = answer_says b (At (op_rest p (at.Index i r))) c w (unsigned_push 32 r c) (λ t. More (at.Index i t)) (λ n. Done (index_op i n)) (λ t e. cc) (λ n e. cc)
-  op_says byte (at.CallType r) sound code = answer_says b (At (op_rest p (at.CallType r))) c w (unsigned_push 32 r c) (λ t. More (at.CallType t)) (λ n. More (at.CallTable n 4)) (λ t e. cc) (λ n e. cc)
-  op_says byte (at.CallTable n left) sound code = index_says n left
+  op_says byte (at.CallType r) sound code = answer_says b (At (op_rest p (at.CallType r))) c w (unsigned_push 32 r c) (λ t. More (at.CallType t)) (λ n. More (at.Table (table_at.Call n) 4)) (λ t e. cc) (λ n e. cc)
+  op_says byte (at.Table t left) sound code = index_says t left
+  op_says byte (at.InitElement r) sound code = answer_says b (At (op_rest p (at.InitElement r))) c w (unsigned_push 32 r c) (λ t. More (at.InitElement t)) (λ n. More (at.Table (table_at.Init n) 4)) (λ t e. cc) (λ n e. cc)
+  op_says byte (at.InitSegment r) sound code = answer_says b (At (op_rest p (at.InitSegment r))) c w (unsigned_push 32 r c) (λ t. More (at.InitSegment t)) (λ n. More (at.InitMemory n)) (λ t e. cc) (λ n e. cc)
+  op_says byte (at.InitMemory n) sound code = closing_says b (At (op_rest p (at.InitMemory n))) c w (closed_begins p (init_op n)) (init_op n)
   op_says byte at.FirstZero sound code = first_zero_says
   op_says byte (at.Memory m) sound code = closing_says b (At (op_rest p (at.Memory m))) c w (closed_begins p (memory_op m)) (memory_op m)
   op_says byte (at.Const32 r) sound code = answer_says b (At (op_rest p (at.Const32 r))) c w (signed_push 32 r c) (λ t. More (at.Const32 t)) (λ z. Done (const_32_op z)) (λ t e. cc) (λ z e. cc)

@@ -1,5 +1,11 @@
 -- BadOpcode, Float and BadByte: a member, and the machine, refuses a byte that does not begin the required thing.
 use Rattle.std.proofs.Common.{◌≡◌, ℕ, zero, suc, ◌<◌, ◌≤◌, ◌^◌, List, [], ◌∷◌, ◌++◌, Some, None, Result, Ok, Err, length, refl, sym, ◌∙◌, ap, subst, arith, nat_eq, nat_lt, append_assoc}
+use Rattle.wm_machine.proofs.SegmentStarts.{active_element, indexed_element, active_data, passive_data, indexed_data}
+use Rattle.std.proofs.Common.{Bool}
+use Rattle.wm_syntax.specs.Profiles.{has}
+use Rattle.wm_syntax.specs.declared.profile.Feature.TheVariants.{BulkMemory}
+use Rattle.wm_machine.proofs.SegmentStarts.{unfinished_any, begun_state}
+use Rattle.wm_machine.specs.exact.MemberSteps.{segment_begun, segment_unfinished}
 use Rattle.std.proofs.lemmas.Bool.{cond_both, eqb-false}
 use Rattle.std.specs.Prelude.{slice_index}
 use Rattle.wm_syntax.specs.declared.numbers.Step.{Step}
@@ -39,12 +45,12 @@ use Rattle.wm_machine.specs.declared.machine.member.InEntry.{InEntry}
 use Rattle.wm_machine.specs.declared.machine.member.InEntry.TheVariants as entry
 use Rattle.wm_machine.specs.declared.machine.member.InMember.{InMember}
 use Rattle.wm_machine.specs.declared.machine.member.InMember.TheVariants as at
-use Rattle.wm_machine.specs.Items.{Item, param, one_result, new_type, const_op, body_op, global as global_part, Marks}
-use Rattle.wm_machine.specs.MarkedForms.{MarkedForm, MarkedByte, Then, Times, Leaf, Vector, Sized, Entry}
+use Rattle.wm_machine.specs.Items.{Item, param, one_result, new_type, const_op, body_op, element_function, global as global_part, Marks}
+use Rattle.wm_machine.specs.MarkedForms.{MarkedForm, MarkedByte, Then, Times, Leaf, Index, Vector, Sized, Entry}
 use Rattle.wm_machine.specs.Sections.{Those, header}
 use Rattle.wm_machine.specs.Grammar.{ModuleForm, Run, Expression, ValueType, ResultTypes, loose, strict}
 use Rattle.wm_machine.specs.Fronts.{IsFront}
-use Rattle.wm_machine.specs.exact.Members.{id_of}
+use Rattle.wm_machine.specs.exact.Members.{rank_of}
 use Rattle.wm_machine.specs.exact.ValueSteps.{value_type_of, global_type_push, run_push, value_push}
 use Rattle.wm_machine.specs.exact.OpSteps.{on_answer, op_push}
 use Rattle.wm_machine.specs.exact.ExpressionSteps.{start, after_op, after_label, after_reading, expression_failed, expression_step}
@@ -52,7 +58,7 @@ use Rattle.wm_machine.specs.exact.MemberSteps.{on_number, on_value, on_type, wit
 use Rattle.wm_machine.specs.exact.Steps.{custom_after_length, custom_step, header_step, step_of}
 use Rattle.wm_machine.specs.exact.Runs.{plain_item, MachineState, state_after, marks, state_at_start}
 use Rattle.wm_machine.specs.exact.Live.{IsRefused}
-use Rattle.wm_machine.specs.Meanings.{Wanted, spelled, a_value_type, a_function_type, MustStand}
+use Rattle.wm_machine.specs.Meanings.{Wanted, spelled, a_value_type, a_function_type, an_element_kind, MustStand}
 use Rattle.wm_machine.proofs.FirstBytes.{head_same}
 use Rattle.wm_machine.proofs.OpRest.{op_rest, op_reader}
 use Rattle.wm_machine.proofs.ValueBytes.{global_rest, global_reader, run_rest, run_reader, value_rest, value_reader}
@@ -69,9 +75,10 @@ use Rattle.wm_machine.proofs.Fronts.{some_later}
 use Rattle.wm_machine.proofs.OneFront.{Agree, modules_agree}
 use Rattle.wm_machine.proofs.AfterTheHeader.{IsLive, step_at}
 use Rattle.wm_machine.proofs.ItemFronts.{StandsIn, StandsAt, StandsEntry, op_stands, label_stands, param_stands, result_stands, name_stands, functions_stand, data_stand, index_stands, over_stands, runs_stand}
-use Rattle.wm_machine.proofs.MustStand.{PartsCan, PartsBegin, leaf_begins, then_begins, sized_begins, entry_begins, led_begins, type_begins, form_begins}
+use Rattle.wm_machine.proofs.MustStand.{PartsCan, PartsBegin, leaf_begins, then_begins, sized_begins, entry_begins, led_begins, type_begins, byte_begins}
 use Rattle.wm_machine.proofs.CodesAtHand.{CodeExpression, CodeEntry, CodeMember, CodeMachine, run_code}
 use Rattle.wm_machine.proofs.WrongBytes.{Says, says_map, as_named, type_says, At, run_says, value_says, global_says, op_says, none_begins, no_type_begins}
+use Rattle.wm_machine.specs.declared.machine.member.SegmentKind.{SegmentKind}
 
 -- what must stand in a member must stand in its section
 pub section_begins : (p : Profile) (W : Form ℕ) (of : SectionKind) (counts : Counts) (more left : ℕ) (q : InMember) (y : List ℕ) → PartsBegin W (ComponentRest loose p q y) (ComponentRest strict p q y)
@@ -81,8 +88,8 @@ section_begins p W of counts more left q y v =
     let t : Comes (Q loose) = some_times left (OneOf loose p of) (some_one p of) in
     let L : MarkedForm = Within loose p of left q y in
     let S : MarkedForm = Within strict p of left q y in
-    then_begins W (Sized loose (suc more) L) (Sized strict (suc more) S) (Later loose p (id_of of) counts) (Later strict p (id_of of) counts)
-    (sized_begins W (suc more) L S (then_begins W (ComponentRest loose p q y) (ComponentRest strict p q y) (Q loose) (Q strict) v t)) (some_later p (id_of of) counts)
+    then_begins W (Sized loose (suc more) L) (Sized strict (suc more) S) (Later loose p (rank_of of) counts) (Later strict p (rank_of of) counts)
+    (sized_begins W (suc more) L S (then_begins W (ComponentRest loose p q y) (ComponentRest strict p q y) (Q loose) (Q strict) v t)) (some_later p (rank_of of) counts)
 
 -- there are such things, and none begins with the byte
 pub record NoneBegins (p : Profile) (c : ℕ) (x : Wanted) : Type 0 where
@@ -193,6 +200,12 @@ module _ (b : List ℕ) (F : Wanted → Type 0) (c : ℕ) where
   numbers : (q : Step ℕ × Partial) (more : Partial → InMember) (done : ℕ → InMember × Event) → ((s : Partial) → StandsAt (more s)) → ((n : ℕ) → GoodAt (done n).0) → GoodAt (on_number q more done at.Failed).0
   numbers = number_good at.Failed StandsAt at_apart at_same b F c
 
+  front_good : (flagged : Bool) (of : SegmentKind) (q : Step ℕ × Partial) → GoodAt (on_number q (segment_unfinished flagged of) (segment_begun flagged of) at.Failed).0
+  front_good flagged of (step.More, s) = unfinished_any GoodAt flagged of s (stays (at.SegmentStart of s) tt) (fails why.BadNumber tt)
+  front_good flagged of (step.Done n, s) =
+      begun_state GoodAt (stays active_element tt) (stays at.ElementKind tt) (stays indexed_element tt) (stays active_data tt) (stays passive_data tt) (stays indexed_data tt) (fails why.BadNumber tt) flagged of n
+  front_good flagged of (step.Bad, s) = fails why.BadNumber tt
+
   body_good : (e : InExpression) → ((w : Why) → e ≡ expression.Failed w → Says b F c w) → GoodEntry (entry_after_op e)
   body_good expression.Over h = stands_good entry.Failed StandsEntry entry_apart entry_same b F c entry.Over tt
   body_good (expression.Failed v) h = failed_good entry.Failed StandsEntry entry_apart entry_same b F c v (h v refl)
@@ -259,7 +272,7 @@ module _ (p : Profile) (b : List ℕ) (c : ℕ) (byte : c < 2 ^ 8) where
       let Q : MarkedForm = Then (Vector (ValueType p param)) (ResultTypes p) in
       let q : Comes Q = some_then (Vector (ValueType p param)) (ResultTypes p) (some_vector (ValueType p param) (some_type p param)) (some_results p) in
       cond_both (nat_eq c 0x60) _ _ (λ (m : InMember × Event). GoodAt b (InMembers at.TypeForm []) c m.0) (λ _. stays b (InMembers at.TypeForm []) c (at.ParamCount fresh) tt)
-      (λ a. fails b (InMembers at.TypeForm []) c why.BadByte (a_function_type, then_here T T Q Q q a_function_type (form_begins p (Some new_type), record { some = (0x60 ∷ [], refl); none = λ more e. eqb-false c 0x60 a (head_same c 0x60 more [] e) }), tt))
+      (λ a. fails b (InMembers at.TypeForm []) c why.BadByte (a_function_type, then_here T T Q Q q a_function_type (byte_begins p 0x60 (Some new_type), record { some = (0x60 ∷ [], refl); none = λ more e. eqb-false c 0x60 a (head_same c 0x60 more [] e) }), tt))
 
   member_says : (left : ℕ) (q : InMember) (y : List ℕ) → SoundMember p left q → CodeMember q b → GoodAt b (InMembers q y) c (member_step p q c).0
   member_says left at.TypeForm y sound code = form_says
@@ -286,6 +299,13 @@ module _ (p : Profile) (b : List ℕ) (c : ℕ) (byte : c < 2 ^ 8) where
   member_says left (at.Index of r) y sound code =
       let F = InMembers (at.Index of r) y in
       numbers b F c (unsigned_push 32 r c) (λ s. at.Index of s) (λ n. with_item_given (after_index of) (index_item of n)) (λ s. tt) (λ n. stays b F c (after_index of) (index_stands of))
+  member_says left (at.SegmentStart of r) y sound code = front_good b (InMembers (at.SegmentStart of r) y) c (has p BulkMemory) of (unsigned_push 32 r c)
+  member_says left at.ElementKind y sound code =
+      let F = InMembers at.ElementKind y in
+      let T : MarkedForm = MarkedByte 0x00 None in
+      let Q : MarkedForm = Vector (Index element_function) in
+      cond_both (nat_eq c 0x00) _ _ (λ (m : InMember × Event). GoodAt b F c m.0) (λ _. stays b F c (at.Length length_of.Functions fresh) tt)
+      (λ a. fails b F c why.BadByte (an_element_kind, then_here T T Q Q (constant_comes p constant.Element) an_element_kind (byte_begins p 0x00 None, record { some = (0x00 ∷ [], refl); none = λ more e. eqb-false c 0x00 a (head_same c 0x00 more [] e) }), tt))
   member_says left (at.GlobalType g) y sound code =
       let L : MarkedForm = Leaf (global_rest p g) global_part in
       let Q : MarkedForm = Expression p const_op in
@@ -399,7 +419,7 @@ module _ (p : Profile) (b : List ℕ) (bytes : AreBytes b) where
   byte_says c byte (machine.Header n) is fits live = header_says (Says b (InInput c) c) tt tt n c
   byte_says c byte m is fits live =
       let S : Why → Type 0 = Says b (InInput c) c in
-      step_at (ByName S) (lives S) (by_name S why.SectionEnd tt) (by_name S why.BadNumber tt) (by_name S why.SectionId tt) (by_name S why.SectionOrder tt) (by_name S why.CodeCount tt) p m c
+      step_at (ByName S) (lives S) (by_name S why.SectionEnd tt) (by_name S why.BadNumber tt) (by_name S why.SectionId tt) (by_name S why.SectionOrder tt) (by_name S why.CodeCount tt) (by_name S why.DataCount tt) p m c
       (λ i. i) (λ w e. absurd (live (subst IsRefused (sym e) tt)))
       (λ q w e. by_name S w (custom_says S tt tt c q w e))
       (λ of counts more left q w i e. by_name S w

@@ -8,7 +8,7 @@ use Rattle.wm_machine.specs.Grammar.{ModuleForm, Items, loose}
 use Rattle.wm_machine.specs.Sinks.{all_taken}
 
 -- The bytes b, with one mark of k beside each, can be continued to a module of the flat grammar under `loose`: sizes,
--- names and the number of code entries are not checked.
+-- names and counts are not checked.
 pub record IsFront (p : Profile) (b : List ℕ) (k : Marks) : Type 0 where
   pub rest : List ℕ
   pub rest_marks : Marks

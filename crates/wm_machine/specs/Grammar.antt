@@ -1,26 +1,31 @@
 -- The flat grammar of a whole input: its items in order, each beside the byte that completes it. Core spec 5.5.
 --
--- The parameter `demanded` is `strict` or `loose`. Under `strict`, sizes, the UTF-8 of names and the number of code
--- entries must be right. Under `loose` they are not checked: this serves fronts of an input that may still be refused
--- for a size, a name or a count. `Section`, `Custom` and `Customs` have twins of the same name in `Sections.antt`,
--- which speak of a module value.
-use Rattle.std.specs.Prelude.{ℕ, zero, suc, ◌+◌, ◌≤◌, ◌≡◌, ◌<◌, ◌^◌, List, [], ◌∷◌, ◌++◌, ◌⊎◌, Some, None}
+-- The parameter `demanded` is `strict` or `loose`. Under `strict`, sizes, the UTF-8 of names and the numbers of code
+-- entries and data segments must be right. Under `loose` they are not checked: this serves fronts of an input that may
+-- still be refused for a size, a name or a count. `Section`, `Custom` and `Customs` have twins of the same name in
+-- `Sections.antt`, which speak of a module value.
+use Rattle.std.specs.Prelude.{ℕ, zero, suc, ◌+◌, ◌≤◌, ◌≡◌, ◌<◌, ◌^◌, List, [], ◌∷◌, ◌++◌, ◌⊎◌, Some, None, IsTrue}
+use Rattle.std.specs.Prelude.{Bool, true, false, Option}
 use Rattle.std.specs.List.{AllByRecursion}
 use Rattle.wm_syntax.specs.declared.instructions.Op.{Op}
 use Rattle.wm_syntax.specs.declared.instructions.Op.TheVariants as op
 use Rattle.wm_syntax.specs.declared.modules.ExportKind.{ExportKind}
 use Rattle.wm_syntax.specs.declared.types.ValType.{ValType}
 use Rattle.wm_syntax.specs.declared.types.GlobalType.{GlobalType}
+use Rattle.wm_syntax.specs.declared.profile.Feature.TheVariants.{BulkMemory}
 use Rattle.wm_syntax.specs.declared.profile.Profile.{Profile}
 use Rattle.wm_syntax.specs.Spelling.{Byte as OneByte, ◌▸◌}
 use Rattle.wm_syntax.specs.Types.{SpellsU32, SpellsValType, SpellsLimits, SpellsTableType, SpellsGlobalType}
 use Rattle.wm_syntax.specs.Instructions.{openings, endings}
 use Rattle.wm_syntax.specs.Encodings.{SpellsOp}
-use Rattle.wm_syntax.specs.Profiles.{HasDesc, HasType, IsOpOf}
+use Rattle.wm_syntax.specs.Profiles.{has, HasDesc, HasType, IsOpOf}
 use Rattle.wm_machine.specs.Sections.{Those, SpellsDesc, SpellsRun, kind_byte, header}
 use Rattle.wm_machine.specs.Items.{Item, new_type, param, result_count, one_result, import_module, import_name}
 use Rattle.wm_machine.specs.Items.{import_desc, function, table, memory, global, const_op, export_name, export}
-use Rattle.wm_machine.specs.Items.{start, element, element_function, body, locals, body_op, segment, data_byte}
+use Rattle.wm_machine.specs.Items.{start, element, element_function, data_count, body, locals, body_op, segment}
+use Rattle.wm_machine.specs.Items.{data_byte, passive_element, passive_segment}
+use Rattle.wm_machine.specs.declared.machine.member.SegmentKind.{SegmentKind}
+use Rattle.wm_machine.specs.declared.machine.member.SegmentKind.TheVariants as segments
 use Rattle.wm_machine.specs.MarkedForms.{MarkedForm, Empty, MarkedByte, Literal, Then, Times, Leaf, Index}
 use Rattle.wm_machine.specs.MarkedForms.{MarkedNumber, Vector, Name, Sized, Filled, Entry, nothing_at}
 use Rattle.wm_machine.specs.MarkedForms.{marks_ending}
@@ -99,10 +104,6 @@ Target = Leaf {X = ExportKind × ℕ} (λ t. OneByte (kind_byte t.0) ▸ SpellsU
 abbrev pub ExportForm : Type 0 → MarkedForm
 ExportForm demanded = Then (Name demanded (λ text. Some (export_name text))) Target
 
--- an element segment: a table index, an offset expression and function indices (Core spec 5.5.12)
-abbrev pub ElementForm : Profile → MarkedForm
-ElementForm p = Then (Index element) (Then (Expression p const_op) (Vector (Index element_function)))
-
 -- a run of locals: their number and their type, of the profile (Core spec 5.5.13)
 abbrev pub Run : Profile → MarkedForm
 Run p = Leaf (SpellsRun p) (λ r. locals r.0 r.1)
@@ -117,17 +118,77 @@ Code demanded p =
 abbrev pub DataByte : MarkedForm
 DataByte = Leaf (λ c b. (b ≡ c ∷ []) × (c < 2 ^ 8)) data_byte
 
--- a data segment: a memory index, an offset expression and a vector of bytes (Core spec 5.5.14)
-abbrev pub SegmentForm : Profile → MarkedForm
-SegmentForm p = Then (Index segment) (Then (Expression p const_op) (Vector DataByte))
+-- the item of an active segment with this index of a table or memory, and that of a passive segment
+abbrev pub active_item : SegmentKind → ℕ → Item
+active_item segments.Element = element
+active_item segments.Data = segment
+
+abbrev pub passive_item : SegmentKind → Item
+passive_item segments.Element = passive_element
+passive_item segments.Data = passive_segment
+
+-- the last part of a segment: a vector of function indices or of bytes (Core spec 5.5.12, 5.5.14)
+abbrev pub SegmentList : SegmentKind → MarkedForm
+SegmentList segments.Element = Vector (Index element_function)
+SegmentList segments.Data = Vector DataByte
+
+-- the last part of a segment with the flag 1 or 2: the element kind 00 comes before function indices (WebAssembly 2.0,
+-- 5.5.12)
+abbrev pub KindedList : SegmentKind → MarkedForm
+KindedList segments.Element = Then (MarkedByte 0x00 None) (SegmentList segments.Element)
+KindedList segments.Data = SegmentList segments.Data
+
+-- The item that the number at the front of a segment completes, if any. Without the feature (`flagged`) the number is
+-- the index of a table or memory (Core spec 5.5.12, 5.5.14); with it, it is 0, 1 or 2 (WebAssembly 2.0, 5.5.12, 5.5.14).
+abbrev pub segment_item : (flagged : Bool) → SegmentKind → ℕ → Option Item
+segment_item false of x = Some (active_item of x)
+segment_item true of zero = Some (active_item of 0)
+segment_item true of (suc zero) = Some (passive_item of)
+segment_item true of n = None
+
+-- The part after that number. With the feature, 1 is the flag of a passive segment, and behind 2 comes the index of a
+-- table or memory.
+abbrev pub SegmentRest : Profile → (flagged : Bool) → SegmentKind → ℕ → MarkedForm
+SegmentRest p false of x = Then (Expression p const_op) (SegmentList of)
+SegmentRest p true of zero = Then (Expression p const_op) (SegmentList of)
+SegmentRest p true of (suc zero) = KindedList of
+SegmentRest p true of (suc (suc zero)) =
+    Then (Index (active_item of)) (Then (Expression p const_op) (KindedList of))
+SegmentRest p true of n = λ b k. ⊥
+
+-- an element segment or a data segment: a number, and what follows it (Core spec 5.5.12, 5.5.14; WebAssembly 2.0,
+-- 5.5.12, 5.5.14)
+abbrev pub SegmentForm : Profile → SegmentKind → MarkedForm
+SegmentForm p of = MarkedNumber (segment_item (has p BulkMemory) of) (SegmentRest p (has p BulkMemory) of)
+
+-- how many functions, imported ones aside, and how many data segments a module has (Core spec 5.5.15)
+pub record ModuleCounts : Type 0 where
+  pub functions : ℕ
+  pub segments : ℕ
+
+-- The sections other than custom ones have ranks from 1 to 12, and stand in this order. This is the id of the section
+-- with a rank. The data count section has the rank 10 and the id 12 (WebAssembly 2.0, 5.5.2 and 5.5.16).
+abbrev pub id_at : ℕ → ℕ
+id_at (suc (suc (suc (suc (suc (suc (suc (suc (suc (suc zero)))))))))) = 12
+id_at (suc (suc (suc (suc (suc (suc (suc (suc (suc (suc (suc zero))))))))))) = 10
+id_at (suc (suc (suc (suc (suc (suc (suc (suc (suc (suc (suc (suc zero)))))))))))) = 11
+id_at rank = rank
+
+-- the profile has the section with this rank: the data count section needs a feature
+abbrev pub HasSection : Profile → (rank : ℕ) → Type 0
+HasSection p rank = rank ≡ 10 → IsTrue (has p BulkMemory)
 
 -- a number n, and then P n times; under `strict` n is f
 abbrev pub Paired : Type 0 → ℕ → MarkedForm → MarkedForm
 Paired demanded f P = MarkedNumber nothing_at (λ n b k. (demanded → n ≡ f) × Times n P b k)
 
--- A member of the section with this id, from 1 to 11; no other id has any. The start function is the one member of its
--- section. Core spec 5.5.4 to 5.5.14.
-abbrev pub Member : Type 0 → Profile → (id : ℕ) → MarkedForm
+-- a number n, which is an item; under `strict` n is s (WebAssembly 2.0, 5.5.15)
+abbrev pub SegmentCount : Type 0 → ℕ → MarkedForm
+SegmentCount demanded s = MarkedNumber (λ n. Some (data_count n)) (λ n b k. (demanded → n ≡ s) × Empty b k)
+
+-- A member of the section with this rank; the data count section has none. The start function is the one member of its
+-- section. Core spec 5.5.4 to 5.5.14, WebAssembly 2.0 5.5.15.
+abbrev pub Member : Type 0 → Profile → (rank : ℕ) → MarkedForm
 Member demanded p (suc zero) = FunctionType p
 Member demanded p (suc (suc zero)) = ImportForm demanded p
 Member demanded p (suc (suc (suc zero))) = Index function
@@ -136,33 +197,36 @@ Member demanded p (suc (suc (suc (suc (suc zero))))) = Leaf SpellsLimits memory
 Member demanded p (suc (suc (suc (suc (suc (suc zero)))))) = Global p
 Member demanded p (suc (suc (suc (suc (suc (suc (suc zero))))))) = ExportForm demanded
 Member demanded p (suc (suc (suc (suc (suc (suc (suc (suc zero)))))))) = Index start
-Member demanded p (suc (suc (suc (suc (suc (suc (suc (suc (suc zero))))))))) = ElementForm p
-Member demanded p (suc (suc (suc (suc (suc (suc (suc (suc (suc (suc zero)))))))))) = Code demanded p
-Member demanded p (suc (suc (suc (suc (suc (suc (suc (suc (suc (suc (suc zero))))))))))) = SegmentForm p
+Member demanded p (suc (suc (suc (suc (suc (suc (suc (suc (suc zero))))))))) = SegmentForm p segments.Element
+Member demanded p (suc (suc (suc (suc (suc (suc (suc (suc (suc (suc (suc zero))))))))))) = Code demanded p
+Member demanded p (suc (suc (suc (suc (suc (suc (suc (suc (suc (suc (suc (suc zero)))))))))))) = SegmentForm p segments.Data
 Member demanded p _ = λ b k. ⊥
 
--- The contents of the section with this id: the number of its members, and then these. There is no number before the
--- start function. Under `strict` there are f functions and f code entries. Core spec 5.5.4 to 5.5.14.
-abbrev pub Contents : Type 0 → Profile → (f id : ℕ) → MarkedForm
-Contents demanded p f (suc zero) = Vector (Member demanded p 1)
-Contents demanded p f (suc (suc zero)) = Vector (Member demanded p 2)
-Contents demanded p f (suc (suc (suc zero))) = Paired demanded f (Member demanded p 3)
-Contents demanded p f (suc (suc (suc (suc zero)))) = Vector (Member demanded p 4)
-Contents demanded p f (suc (suc (suc (suc (suc zero))))) = Vector (Member demanded p 5)
-Contents demanded p f (suc (suc (suc (suc (suc (suc zero)))))) = Vector (Member demanded p 6)
-Contents demanded p f (suc (suc (suc (suc (suc (suc (suc zero))))))) = Vector (Member demanded p 7)
-Contents demanded p f (suc (suc (suc (suc (suc (suc (suc (suc zero)))))))) = Member demanded p 8
-Contents demanded p f (suc (suc (suc (suc (suc (suc (suc (suc (suc zero))))))))) = Vector (Member demanded p 9)
-Contents demanded p f (suc (suc (suc (suc (suc (suc (suc (suc (suc (suc zero)))))))))) =
-    Paired demanded f (Member demanded p 10)
-Contents demanded p f (suc (suc (suc (suc (suc (suc (suc (suc (suc (suc (suc zero))))))))))) =
-    Vector (Member demanded p 11)
-Contents demanded p f _ = λ b k. ⊥
+-- The contents of the section with this rank: the number of its members, and then these. There is no number before the
+-- start function, and the data count section is a number alone. Under `strict` the numbers of functions, of code entries
+-- and of data segments are those of `d`. Core spec 5.5.4 to 5.5.14, WebAssembly 2.0 5.5.15.
+abbrev pub Contents : Type 0 → Profile → (d : ModuleCounts) (rank : ℕ) → MarkedForm
+Contents demanded p d (suc zero) = Vector (Member demanded p 1)
+Contents demanded p d (suc (suc zero)) = Vector (Member demanded p 2)
+Contents demanded p d (suc (suc (suc zero))) = Paired demanded d.functions (Member demanded p 3)
+Contents demanded p d (suc (suc (suc (suc zero)))) = Vector (Member demanded p 4)
+Contents demanded p d (suc (suc (suc (suc (suc zero))))) = Vector (Member demanded p 5)
+Contents demanded p d (suc (suc (suc (suc (suc (suc zero)))))) = Vector (Member demanded p 6)
+Contents demanded p d (suc (suc (suc (suc (suc (suc (suc zero))))))) = Vector (Member demanded p 7)
+Contents demanded p d (suc (suc (suc (suc (suc (suc (suc (suc zero)))))))) = Member demanded p 8
+Contents demanded p d (suc (suc (suc (suc (suc (suc (suc (suc (suc zero))))))))) = Vector (Member demanded p 9)
+Contents demanded p d (suc (suc (suc (suc (suc (suc (suc (suc (suc (suc zero)))))))))) =
+    SegmentCount demanded d.segments
+Contents demanded p d (suc (suc (suc (suc (suc (suc (suc (suc (suc (suc (suc zero))))))))))) =
+    Paired demanded d.functions (Member demanded p 11)
+Contents demanded p d (suc (suc (suc (suc (suc (suc (suc (suc (suc (suc (suc (suc zero)))))))))))) =
+    Paired demanded d.segments (Member demanded p 12)
+Contents demanded p d _ = λ b k. ⊥
 
 -- a section: its id, its size n, and contents, under `strict` of n bytes (Core spec 5.5.2)
-abbrev pub Section : Type 0 → Profile → (f id : ℕ) → MarkedForm
-Section demanded p f id =
-    Then (MarkedByte id None) (MarkedNumber nothing_at (λ n. Sized demanded n (Contents demanded p f id)))
+abbrev pub Section : Type 0 → Profile → (d : ModuleCounts) (rank : ℕ) → MarkedForm
+Section demanded p d rank =
+    Then (MarkedByte (id_at rank) None) (MarkedNumber nothing_at (λ n. Sized demanded n (Contents demanded p d rank)))
 
 -- a custom section: the id 0, a size, a name, and then any bytes; it has no item (Core spec 5.5.3)
 abbrev pub Custom : Type 0 → MarkedForm
@@ -173,23 +237,26 @@ Custom demanded =
 abbrev pub Customs : Type 0 → MarkedForm
 Customs demanded b k = (n : ℕ) × Times n (Custom demanded) b k
 
--- A section may be missing; the function section and the code section only if f is 0. Core spec 5.5.2, 5.5.15.
-abbrev pub MayMiss : (f id : ℕ) → Type 0
-MayMiss f id = (id ≡ 3) ⊎ (id ≡ 10) → f ≡ 0
+-- A section may be missing; the function section and the code section only if there are no functions, and the data
+-- section only if there are no data segments. Core spec 5.5.2, 5.5.15.
+abbrev pub MayMiss : (d : ModuleCounts) (rank : ℕ) → Type 0
+MayMiss d rank = ((rank ≡ 3) ⊎ (rank ≡ 11) → d.functions ≡ 0) × (rank ≡ 12 → d.segments ≡ 0)
 
--- the section, or no bytes if it may be missing
-abbrev pub Optional : Type 0 → Profile → (f id : ℕ) → MarkedForm
-Optional demanded p f id b k = Section demanded p f id b k ⊎ (MayMiss f id × Empty b k)
+-- the section, if the profile has it, or no bytes if it may be missing
+abbrev pub Optional : Type 0 → Profile → (d : ModuleCounts) (rank : ℕ) → MarkedForm
+Optional demanded p d rank b k =
+    (HasSection p rank × Section demanded p d rank b k) ⊎ (MayMiss d rank × Empty b k)
 
--- the `count` sections from `id` on in order, each may be missing, with custom sections before, between and after them
-abbrev pub Chain : Type 0 → Profile → (f count id : ℕ) → MarkedForm
-Chain demanded p f zero id = Customs demanded
-Chain demanded p f (suc count) id =
-    Then (Customs demanded) (Then (Optional demanded p f id) (Chain demanded p f count (suc id)))
+-- the `count` sections from `rank` on in order, each may be missing, with custom sections before, between and after them
+abbrev pub Chain : Type 0 → Profile → (d : ModuleCounts) (count rank : ℕ) → MarkedForm
+Chain demanded p d zero rank = Customs demanded
+Chain demanded p d (suc count) rank =
+    Then (Customs demanded) (Then (Optional demanded p d rank) (Chain demanded p d count (suc rank)))
 
--- a module with some number f of functions: magic number, version, and the sections with ids 1 to 11 (Core spec 5.5.15)
+-- a module with some numbers of functions and data segments: magic number, version, and the sections with ranks 1 to 12
+-- (Core spec 5.5.15)
 abbrev pub ModuleForm : Type 0 → Profile → MarkedForm
-ModuleForm demanded p b k = (f : ℕ) × Then (Literal header) (Chain demanded p f 11 1) b k
+ModuleForm demanded p b k = (d : ModuleCounts) × Then (Literal header) (Chain demanded p d 12 1) b k
 
 -- `Items p b k`: the bytes b are a whole input under the profile p, checked strictly, and k are their marks
 abbrev pub Items : Profile → MarkedForm

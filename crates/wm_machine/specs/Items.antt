@@ -25,11 +25,14 @@ pub data Item : Type 0 where
   export : ExportKind → ℕ → Item
   start : ℕ → Item
   element : ℕ → Item
+  passive_element : Item
   element_function : ℕ → Item
+  data_count : ℕ → Item
   body : Item
   locals : ℕ → ValType → Item
   body_op : Op → Item
   segment : ℕ → Item
+  passive_segment : Item
   data_byte : ℕ → Item
 
 -- Where a byte lies. `name`: in the bytes of a name, before the last. `entry`: after the size of a code entry, before

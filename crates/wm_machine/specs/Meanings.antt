@@ -14,13 +14,14 @@ use Rattle.wm_syntax.specs.Types.{SpellsU32, SpellsName, SpellsValType, SpellsBl
 use Rattle.wm_syntax.specs.Encodings.{SpellsOp}
 use Rattle.wm_syntax.specs.OpClasses.{code, is_float}
 use Rattle.wm_syntax.specs.Profiles.{has, HasBlockType, HasType, IsOpOf}
-use Rattle.wm_syntax.specs.declared.profile.Feature.TheVariants.{LongIndex}
+use Rattle.wm_syntax.specs.declared.profile.Feature.{Feature}
+use Rattle.wm_syntax.specs.declared.profile.Feature.TheVariants.{BulkMemory}
 use Rattle.wm_syntax.specs.declared.profile.Profile.{Profile}
 use Rattle.wm_machine.specs.declared.refusal.Refusal.{Refusal}
 use Rattle.wm_machine.specs.Items.{Item, Mark, Marks, body_op, items_at}
 use Rattle.wm_machine.specs.MarkedForms.{Then, Vector}
 use Rattle.wm_machine.specs.Sections.{Section, Those, header, kind_byte}
-use Rattle.wm_machine.specs.Grammar.{Items, ModuleForm, Code, Run, Expression, strict, loose}
+use Rattle.wm_machine.specs.Grammar.{HasSection, Items, ModuleForm, Code, Run, Expression, id_at, strict, loose}
 use Rattle.wm_machine.specs.Sinks.{all_taken}
 use Rattle.wm_machine.specs.Fronts.{IsFront}
 
@@ -36,13 +37,16 @@ SpellsRaw s = Section s.id (Exactly s.contents)
 abbrev pub SpellsSections : List RawSection → Form ℕ
 SpellsSections sections = Exactly header ▸ Each SpellsRaw sections
 
--- one of these sections has this id, or a greater one
-pub record HasFrom (id : ℕ) (sections : List RawSection) : Type 0 where
+-- one of these sections has this rank, or a greater one
+pub record HasFrom (rank : ℕ) (sections : List RawSection) : Type 0 where
   pub before : List RawSection
   pub one : RawSection
   pub after : List RawSection
+  pub its_rank : ℕ
   pub whole : sections ≡ before ++ one ∷ after
-  pub from : id ≤ one.id
+  pub id : one.id ≡ id_at its_rank
+  pub few : its_rank ≤ 12
+  pub from : rank ≤ its_rank
 
 -- Magic and Version: all bytes but the last are those of the header, and the last is not. Its index in the header is at
 -- least `from` and less than `below`. Core spec 5.5.15.
@@ -64,14 +68,15 @@ pub record WrongId (IsWrong : List RawSection → ℕ → Type 0) (used : List �
   pub before : SpellsSections sections front
   pub wrong : IsWrong sections id
 
--- SectionId: no section has this id (Core spec 5.5.2)
-abbrev pub IsUnknown : List RawSection → ℕ → Type 0
-IsUnknown sections id = 11 < id
+-- SectionId: no section of the profile has this id. Custom sections have the rank 0. Core spec 5.5.2.
+abbrev pub IsUnknown : Profile → List RawSection → ℕ → Type 0
+IsUnknown p sections id = (rank : ℕ) → rank ≤ 12 → HasSection p rank → id ≢ id_at rank
 
--- SectionOrder: a section with this id or a greater one came before. Ids must rise, except the id 0 of custom sections.
--- Core spec 5.5.15.
-abbrev pub IsLate : List RawSection → ℕ → Type 0
-IsLate sections id = (0 < id) × (id ≤ 11) × HasFrom id sections
+-- SectionOrder: a section of the profile has this id, and one with its rank or a greater one came before. Ranks must
+-- rise, except the rank 0 of custom sections. Core spec 5.5.15.
+abbrev pub IsLate : Profile → List RawSection → ℕ → Type 0
+IsLate p sections id = (rank : ℕ) × (0 < rank) × (rank ≤ 12) × HasSection p rank × (id ≡ id_at rank)
+    × HasFrom rank sections
 
 -- Truncated, first case: the bytes end inside the header. Core spec 5.5.15.
 abbrev pub EndsInHeader : List ℕ → Type 0
@@ -103,6 +108,7 @@ pub data Wanted : Type 0 where
   a_block_type : Wanted
   a_function_type : Wanted
   an_element_type : Wanted
+  an_element_kind : Wanted
   a_flag : Wanted
   a_kind : Wanted
   a_zero : Wanted
@@ -113,9 +119,10 @@ AnInstruction p b = (o : Op) × (c : ℕ) × (code o ≡ Some c) × IsOpOf p o �
 
 -- The bytes of a required thing. An instruction has all its bytes here, or those that come after the bytes `begun`
 -- (`a_code`). A value type (Core spec 5.3.1) and a block type (5.3.2) of the profile have all their bytes too. The
--- others have one byte here: the first of a function type (5.3.3) or table type (5.3.6); the flag of limits (5.3.4) or
--- of mutability (5.3.7); the kind of an import (5.5.5) or an export (5.5.10); the 00 that ends some instructions
--- (5.4.1, 5.4.4), or comes before such a 00 (WebAssembly 2.0, 5.4.6).
+-- others have one byte here: the first of a function type (5.3.3) or table type (5.3.6); the kind of the elements of a
+-- segment (WebAssembly 2.0, 5.5.12); the flag of limits (5.3.4) or of mutability (5.3.7); the kind of an import (5.5.5)
+-- or an export (5.5.10); the 00 that ends some instructions (5.4.1, 5.4.4), or comes before such a 00 (WebAssembly 2.0,
+-- 5.4.6).
 abbrev pub spelled : Profile → Wanted → Form ℕ
 spelled p an_instruction b = AnInstruction p b
 spelled p (a_code begun) b = AnInstruction p (begun ++ b)
@@ -123,6 +130,7 @@ spelled p a_value_type b = (t : ValType) × Those (HasType p) SpellsValType t b
 spelled p a_block_type b = (t : Option ValType) × Those (HasBlockType p) SpellsBlockType t b
 spelled p a_function_type b = Byte 0x60 b
 spelled p an_element_type b = Byte 0x70 b
+spelled p an_element_kind b = Byte 0x00 b
 spelled p a_flag b = (Byte 0x00 ∣ Byte 0x01) b
 spelled p a_kind b = (k : ExportKind) × Byte (kind_byte k) b
 spelled p a_zero b = Byte 0x00 b
@@ -198,47 +206,54 @@ pub record BadName (p : Profile) (used : List ℕ) : Type 0 where
   pub place : MustStand p (λ b. (length b ≡ length text) × IsUtf8 b) (before ++ size)
   pub bad : IsUtf8 text → ⊥
 
--- the contents of a section with the id 3 begin with the number n (Core spec 5.5.6)
-pub record HasCount (n : ℕ) (sections : List RawSection) : Type 0 where
+-- the contents of a section with this id begin with the number n (Core spec 5.5.6; WebAssembly 2.0, 5.5.15)
+pub record HasCount (id n : ℕ) (sections : List RawSection) : Type 0 where
   pub before : List RawSection
   pub after : List RawSection
   pub number : List ℕ
   pub more : List ℕ
-  pub whole : sections ≡ before ++ record { id = 3; contents = number ++ more } ∷ after
+  pub whole : sections ≡ before ++ record { id = id; contents = number ++ more } ∷ after
   pub spelled : SpellsU32 n number
 
--- the sections declare n functions: `HasCount n` holds, or no section has the id 3 and n is 0 (Core spec 5.5.15)
+-- the sections declare n functions: one with the id 3 has this number, or there is none and n is 0 (Core spec 5.5.15)
 abbrev pub Declare : ℕ → List RawSection → Type 0
-Declare n sections = HasCount n sections ⊎ ((n ≡ 0) × AllByRecursion (λ s. s.id ≢ 3) sections)
+Declare n sections = HasCount 3 n sections ⊎ ((n ≡ 0) × AllByRecursion (λ s. s.id ≢ 3) sections)
 
--- CodeCount, first case: after complete sections, a section with the id 10 begins, up to the number of its code
--- entries. This number is not that of the functions. Core spec 5.5.15.
-pub record OtherCount (used : List ℕ) : Type 0 where
+-- CodeCount and DataCount, first case: after complete sections, a section with this id begins, up to the number of its
+-- members. This number differs from the one that earlier sections give (`Says`). Core spec 5.5.15.
+pub record OtherCount (Says : ℕ → List RawSection → Type 0) (id : ℕ) (used : List ℕ) : Type 0 where
   pub sections : List RawSection
   pub front : List ℕ
   pub size : List ℕ
   pub count : List ℕ
   pub bytes : ℕ
-  pub entries : ℕ
-  pub functions : ℕ
-  pub whole : used ≡ front ++ 10 ∷ (size ++ count)
+  pub members : ℕ
+  pub declared : ℕ
+  pub whole : used ≡ front ++ id ∷ (size ++ count)
   pub before : SpellsSections sections front
   pub spelled_bytes : SpellsU32 bytes size
-  pub spelled_entries : SpellsU32 entries count
-  pub declared : Declare functions sections
-  pub differ : entries ≢ functions
+  pub spelled_members : SpellsU32 members count
+  pub says : Says declared sections
+  pub differ : members ≢ declared
 
--- CodeCount, second case: functions are declared and no section has the id 10. The input ends, or a section with the
--- id 11 begins. Core spec 5.5.15.
-pub record NoCode (used rest : List ℕ) : Type 0 where
+-- CodeCount and DataCount, second case: complete sections give a number above 0 (`Says`). None of them has this id.
+-- Core spec 5.5.15.
+pub record NoSection (Says : ℕ → List RawSection → Type 0) (id : ℕ) (front : List ℕ) : Type 0 where
   pub sections : List RawSection
-  pub front : List ℕ
-  pub functions : ℕ
-  pub ends : ((used ≡ front) × (rest ≡ [])) ⊎ (used ≡ front ++ 11 ∷ [])
+  pub declared : ℕ
   pub before : SpellsSections sections front
-  pub declared : Declare functions sections
-  pub some : 0 < functions
-  pub none : AllByRecursion (λ s. s.id ≢ 10) sections
+  pub says : Says declared sections
+  pub some : 0 < declared
+  pub none : AllByRecursion (λ s. s.id ≢ id) sections
+
+-- CodeCount: functions are declared and there is no code section. The input ends, or a section with the id 11 begins.
+abbrev pub NoCode : List ℕ → List ℕ → Type 0
+NoCode used rest = (front : List ℕ) × (((used ≡ front) × (rest ≡ [])) ⊎ (used ≡ front ++ 11 ∷ []))
+    × NoSection Declare 10 front
+
+-- DataCount: the data count section gives a number above 0, and there is no data section. The input ends.
+abbrev pub NoData : List ℕ → List ℕ → Type 0
+NoData used rest = (rest ≡ []) × NoSection (HasCount 12) 11 used
 
 -- The bytes are the front of a module, or all of it, under `loose`.
 abbrev pub CanGoOn : Profile → List ℕ → Type 0
@@ -286,18 +301,22 @@ pub record OtherBodySize (p : Profile) (used : List ℕ) : Type 0 where
   pub wrong : ((length contents ≡ bytes) × BeginsEntry p contents)
       ⊎ ((length contents < bytes) × IsEntry p contents)
 
--- The kinds of integers in a module: u32, s32 and s64 (Core spec 5.2.2). The table index of a `call_indirect` is a u32
--- that must be 0, and an integer only if the profile has `LongIndex` (WebAssembly 2.0, 5.4.1).
+-- The kinds of integers in a module: u32, s32 and s64 (Core spec 5.2.2). A table index in an instruction is a u32 that
+-- must be 0, and an integer only if the profile has a feature: `LongIndex` for that of a `call_indirect` (WebAssembly
+-- 2.0, 5.4.1), and `BulkMemory` for those of `table.init` and `table.copy` (5.4.5). The flag at the front of a segment is
+-- a u32 of at most 2, and an integer only if the profile has `BulkMemory` (5.5.12, 5.5.14).
 pub data Integer : Type 0 where
   u32 : Integer
-  u32_zero : Integer
+  u32_zero : Feature → Integer
+  u32_flag : Integer
   s32 : Integer
   s64 : Integer
 
 -- the bytes spell an integer of this kind (Core spec 5.2.2)
 abbrev pub spells : Profile → Integer → Form ℕ
 spells p u32 b = (n : ℕ) × Unsigned 32 n b
-spells p u32_zero b = IsTrue (has p LongIndex) × Unsigned 32 0 b
+spells p (u32_zero feature) b = IsTrue (has p feature) × Unsigned 32 0 b
+spells p u32_flag b = IsTrue (has p BulkMemory) × (n : ℕ) × (n ≤ 2) × Unsigned 32 n b
 spells p s32 b = (z : ℤ) × Signed 32 z b
 spells p s64 b = (z : ℤ) × Signed 64 z b
 
@@ -324,15 +343,16 @@ pub record WrongNumber (p : Profile) (used : List ℕ) : Type 0 where
 abbrev pub MeansOfFormat : Profile → ℕ → List ℕ → List ℕ → Why → Type 0
 MeansOfFormat p limit used rest why.Magic = WrongInHeader 0 4 used
 MeansOfFormat p limit used rest why.Version = WrongInHeader 4 8 used
-MeansOfFormat p limit used rest why.SectionId = WrongId IsUnknown used
-MeansOfFormat p limit used rest why.SectionOrder = WrongId IsLate used
+MeansOfFormat p limit used rest why.SectionId = WrongId (IsUnknown p) used
+MeansOfFormat p limit used rest why.SectionOrder = WrongId (IsLate p) used
 MeansOfFormat p limit used rest why.Truncated = EndsInside used rest
 MeansOfFormat p limit used rest why.TooLong = length used ≡ limit + 1
 MeansOfFormat p limit used rest why.BadOpcode = WrongByte p IsNoInstruction used
 MeansOfFormat p limit used rest why.Float = WrongByte p BeginsFloat used
 MeansOfFormat p limit used rest why.BadByte = WrongByte p IsOtherByte used
 MeansOfFormat p limit used rest why.BadUtf8 = BadName p used
-MeansOfFormat p limit used rest why.CodeCount = OtherCount used ⊎ NoCode used rest
+MeansOfFormat p limit used rest why.CodeCount = OtherCount Declare 10 used ⊎ NoCode used rest
+MeansOfFormat p limit used rest why.DataCount = OtherCount (HasCount 12) 11 used ⊎ NoData used rest
 MeansOfFormat p limit used rest why.SectionEnd = OtherSize p used
 MeansOfFormat p limit used rest why.BodyEnd = OtherBodySize p used
 MeansOfFormat p limit used rest why.BadNumber = WrongNumber p used

@@ -7,7 +7,8 @@ use Rattle.wm_machine.specs.declared.item.Item.{Item as Given}
 use Rattle.wm_machine.specs.declared.item.Item.TheVariants as items
 use Rattle.wm_machine.specs.Items.{Item, new_type, param, result_count, one_result, import_module, import_name}
 use Rattle.wm_machine.specs.Items.{import_desc, function, table, memory, global, const_op, export_name, export}
-use Rattle.wm_machine.specs.Items.{start, element, element_function, body, locals, body_op, segment, data_byte}
+use Rattle.wm_machine.specs.Items.{start, element, element_function, data_count, body, locals, body_op, segment}
+use Rattle.wm_machine.specs.Items.{data_byte, passive_element, passive_segment}
 
 -- the items that a borrowed item stands for: a slice of data bytes stands for one item per byte
 abbrev pub items_for : Given → List Item
@@ -30,11 +31,14 @@ items_for (items.ExportName text) = export_name text.now ∷ []
 items_for (items.Export kind x) = export kind x ∷ []
 items_for (items.Start x) = start x ∷ []
 items_for (items.Elem x) = element x ∷ []
+items_for items.PassiveElem = passive_element ∷ []
 items_for (items.ElemFunc x) = element_function x ∷ []
+items_for (items.DataCount n) = data_count n ∷ []
 items_for items.Body = body ∷ []
 items_for (items.Locals n t) = locals n t ∷ []
 items_for (items.Op o) = body_op o ∷ []
 items_for (items.Segment x) = segment x ∷ []
+items_for items.PassiveSegment = passive_segment ∷ []
 items_for (items.DataBytes bytes) = map data_byte bytes.now
 
 -- the result of f on an `Ok` value; an error stays as it is

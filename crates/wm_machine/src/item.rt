@@ -32,18 +32,24 @@ pub enum Item<'a> {
     Export(ExportKind, u32),
     /// The index of the start function.
     Start(u32),
-    /// An element segment begins: the index of its table.
+    /// An active element segment begins: the index of its table.
     Elem(u32),
+    /// A passive element segment begins.
+    PassiveElem,
     /// A function index in an element segment.
     ElemFunc(u32),
+    /// The number in the data count section.
+    DataCount(u32),
     /// A code entry begins.
     Body,
     /// A run of locals: their number and their type.
     Locals(u32, ValType),
     /// An op of a code entry; its closing `end` is one too.
     Op(Op),
-    /// A data segment begins: the index of its memory.
+    /// An active data segment begins: the index of its memory.
     Segment(u32),
+    /// A passive data segment begins.
+    PassiveSegment,
     /// The next bytes of a data segment, at least one.
     DataBytes(&'a [u8]),
 }

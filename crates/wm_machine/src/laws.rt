@@ -4,14 +4,15 @@ ghost use Rattle.std.specs.Prelude.{◌≡◌, ◌+◌, ◌≤◌, ◌++◌, ◌
 ghost use Rattle.std.specs.List.{AllByRecursion};
 ghost use Rattle.wm_syntax.specs.declared.profile.Profile.{Profile};
 ghost use Rattle.wm_syntax.specs.Spelling.{AreBytes};
-ghost use Rattle.wm_syntax.specs.Modules.{Module as ModuleValue};
+ghost use Rattle.wm_syntax.specs.Modules.{Module as ModuleValue, index_of};
 ghost use Rattle.wm_syntax.specs.Profiles.{Extends, IsOf, every};
 ghost use Rattle.wm_machine.specs.Flat.{FlatModule, IsFlatOf, SpellsFlat, flat_items};
 ghost use Rattle.wm_machine.specs.Items.{Marks, data_byte, items_at};
 ghost use Rattle.wm_machine.specs.Sections.{SpellsModule};
 ghost use Rattle.wm_machine.specs.Sinks.{all_taken, and_then};
 ghost use Rattle.wm_machine.specs.Grammar.{Items};
-ghost use Rattle.wm_machine.specs.BetweenProfiles.{EncodeAlike, HasItem, SameUpToProfile};
+ghost use Rattle.wm_machine.specs.BetweenProfiles.{EncodeAlike, FrontsAlike, HasItem, ReadSegmentsAlike};
+ghost use Rattle.wm_machine.specs.BetweenProfiles.{SameUpToProfile};
 ghost use Rattle.wm_machine.specs.Decoding.{Setting};
 ghost use Rattle.wm_machine.specs.Meanings.{AtItem, GivesRuleNames, IsRuleName, MeaningOfFormat, Meant};
 ghost use Rattle.wm_machine.specs.Meanings.{RefusesBy};
@@ -81,10 +82,13 @@ pub fn all_features_have_all()
     ensures { (m : ModuleValue) → IsOf every m }
 {}
 
-/// Bytes that spell a module under a profile spell it under every profile that extends this one.
+/// Bytes that spell a module under a profile spell it under every profile that extends this one, if the fronts of its
+/// segments have the same bytes under both.
 pub fn more_features_spell_as_much()
-    ensures { (p q : Profile) (m : ModuleValue) (b : List ℕ) → Extends q p → SpellsModule p m b
-        → SpellsModule q m b }
+    ensures { (p q : Profile) (m : ModuleValue) (b : List ℕ) → Extends q p
+        → FrontsAlike p q (map (λ e. index_of e.mode) m.elements)
+        → FrontsAlike p q (map (λ s. index_of s.mode) m.segments)
+        → SpellsModule p m b → SpellsModule q m b }
 {}
 
 /// A whole input consists of bytes (numbers below 256), and so does the spelling of a module.
@@ -93,10 +97,10 @@ pub fn input_is_bytes()
     ensures spelled { (p : Profile) (m : ModuleValue) (b : List ℕ) → SpellsModule p m b → AreBytes b }
 {}
 
-/// No bytes spell two different modules, even under two profiles. Core spec 5.5.15.
+/// No bytes spell two different modules, even under two profiles that read the fronts of segments alike. Core spec 5.5.15.
 pub fn one_spelling_one_module()
-    ensures { (p q : Profile) (m n : ModuleValue) (b : List ℕ) → SpellsModule p m b → SpellsModule q n b
-        → m ≡ n }
+    ensures { (p q : Profile) (m n : ModuleValue) (b : List ℕ) → ReadSegmentsAlike p q → SpellsModule p m b
+        → SpellsModule q n b → m ≡ n }
 {}
 
 /// The name of a refusal means what `MeaningOfFormat` says about the bytes up to its offset. This holds over any sink
@@ -115,21 +119,24 @@ pub fn rule_names_are_of_items<S: Sink>()
         → Meant (λ used rest w. AtItem s.profile (RefusesBy S.after s.first w) used) input r }
 {}
 
-/// A profile and one that extends it give the same answer to an input, with one exception. The first may refuse a byte
-/// as `Float` or `BadOpcode`, or as `BadByte` if it lacks the `LongIndex` of the second; then the second refuses no
-/// earlier, if at all.
+/// A profile and one that extends it, of which both or neither has `BulkMemory`, give the same answer to an input, with
+/// one exception. The first may refuse a byte as `Float` or `BadOpcode`, or as `BadByte` if it lacks the `LongIndex` of
+/// the second. Then the second refuses no earlier, if at all.
 pub fn profiles_answer_alike<S: Sink>()
     ensures { (p q : Profile) (limit : ℕ) (first : S.Held) (input : List ℕ) → Extends q p
-        → SameUpToProfile p q
+        → ReadSegmentsAlike p q → SameUpToProfile p q
         (answer_of S.after (record { profile = p; limit = limit; first = first }) input)
         (answer_of S.after (record { profile = q; limit = limit; first = first }) input) }
 {}
 
-/// Bytes that spell a flat value under a profile spell it under each profile that extends this one, and this profile
-/// has each item of the value. The converse holds of two profiles that encode alike.
+/// Bytes that spell a flat value under a profile spell it under each profile that extends this one, if the fronts of its
+/// segments have the same bytes under both, and this profile has each item of the value. The converse holds of two
+/// profiles that encode instructions alike and read the fronts alike.
 pub fn items_tell_the_profile()
-    ensures more { (p q : Profile) (v : FlatModule) (b : List ℕ) → Extends q p → SpellsFlat p v b
+    ensures more { (p q : Profile) (v : FlatModule) (b : List ℕ) → Extends q p
+        → FrontsAlike p q (map (λ e. e.table) v.elements) → FrontsAlike p q (map (λ s. s.memory) v.segments)
+        → SpellsFlat p v b
         → SpellsFlat q v b × AllByRecursion (HasItem p) (flat_items v) }
     ensures less { (p q : Profile) (v : FlatModule) (b : List ℕ) → Extends q p → EncodeAlike p q
-        → SpellsFlat q v b → AllByRecursion (HasItem p) (flat_items v) → SpellsFlat p v b }
+        → ReadSegmentsAlike p q → SpellsFlat q v b → AllByRecursion (HasItem p) (flat_items v) → SpellsFlat p v b }
 {}

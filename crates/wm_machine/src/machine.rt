@@ -3,7 +3,7 @@
 ghost use Rattle.std.specs.Prelude.{◌≡◌, ◌∷◌, []};
 ghost use Rattle.wm_machine.specs.Sinks.{items_for};
 ghost use Rattle.wm_machine.specs.exact.Runs.{plain_item};
-ghost use Rattle.wm_machine.specs.exact.Steps.{counts_in, no_counts};
+ghost use Rattle.wm_machine.specs.exact.Steps.{counts_in, is_given, no_counts};
 ghost use Rattle.wm_machine.specs.exact.Live.{refusal_in_machine};
 
 use crate::item::Item;
@@ -41,11 +41,14 @@ pub enum Plain {
     Export(ExportKind, u32),
     Start(u32),
     Element(u32),
+    PassiveElement,
     ElementFunction(u32),
+    DataCount(u32),
     Body,
     Locals(u32, ValType),
     BodyOp(Op),
     Segment(u32),
+    PassiveSegment,
 }
 
 #[inline(always)]
@@ -80,11 +83,14 @@ impl Plain {
             Plain::Export(kind, index) => Item::Export(kind, index),
             Plain::Start(index) => Item::Start(index),
             Plain::Element(index) => Item::Elem(index),
+            Plain::PassiveElement => Item::PassiveElem,
             Plain::ElementFunction(index) => Item::ElemFunc(index),
+            Plain::DataCount(n) => Item::DataCount(n),
             Plain::Body => Item::Body,
             Plain::Locals(count, ty) => Item::Locals(count, ty),
             Plain::BodyOp(op) => Item::Op(op),
             Plain::Segment(index) => Item::Segment(index),
+            Plain::PassiveSegment => Item::PassiveSegment,
         }
     }
 }
@@ -106,8 +112,10 @@ pub enum InCustom {
 pub struct Counts {
     /// The number of functions declared, until the count of the code section is read; then 0.
     pub functions: u32,
+    /// The number in the data count section, until the count of the data section is read; then `None`.
+    pub segments: Option<u32>,
     /// The member count of the last section whose count was read, or 1 after the size of the start section. 0 before
-    /// the first.
+    /// the first, and after the number in the data count section.
     pub members: u32,
 }
 
@@ -119,28 +127,51 @@ impl Counts {
     {
         Counts {
             functions: 0,
+            segments: None,
             members: 0,
         }
     }
 
-    /// Returns the counts in a section with this number of members.
+    /// Returns the counts in a section after the number at its front: that of its members, or of all data segments in
+    /// the data count section.
     #[inline(always)]
-    pub fn in_section(self, of: SectionKind, members: u32) -> Counts
-        ensures { result ≡ counts_in of self members }
+    pub fn in_section(self, of: SectionKind, number: u32) -> Counts
+        ensures { result ≡ counts_in of self number }
     {
-        let functions = match of {
-            SectionKind::Function => members,
-            SectionKind::Code => 0,
-            _ => self.functions,
+        let mut counts = Counts {
+            members: number,
+            ..self
         };
-        Counts { functions, members }
+        match of {
+            SectionKind::Function => counts.functions = number,
+            SectionKind::DataCount => {
+                counts.segments = Some(number);
+                counts.members = 0;
+            }
+            SectionKind::Code => counts.functions = 0,
+            SectionKind::Segment => counts.segments = None,
+            _ => {}
+        }
+        counts
+    }
+
+    /// Whether a data section may have this many members. It must have as many as the data count section gives, if
+    /// there is one.
+    #[inline(always)]
+    pub fn allows_segments(self, members: u32) -> bool
+        ensures { result ≡ is_given self.segments members }
+    {
+        match self.segments {
+            Some(segments) => members == segments,
+            None => true,
+        }
     }
 }
 
 /// The state of the decoder state machine between two bytes. It holds all that is retained of the bytes so far, except
 /// the bytes of a name that is split across pieces.
 ///
-/// `last` is the id of the last section that was not custom, or 0. `more` is the number of bytes of the section after
+/// `last` is the rank of the last section that was not custom, or 0. `more` is the number of bytes of the section after
 /// the next byte.
 #[derive(Clone, Copy)]
 pub enum Machine {
@@ -169,7 +200,7 @@ pub enum Machine {
         counts: Counts,
         number: Num32,
     },
-    /// Inside the member count of the section.
+    /// Inside the number at the front of the section: its member count, or the number in the data count section.
     Count {
         of: SectionKind,
         counts: Counts,

@@ -4,11 +4,11 @@ ghost use Rattle.std.specs.Prelude.{◌≡◌};
 ghost use Rattle.wm_machine.specs.exact.Steps.{custom_length_step, custom_name_step, custom_step};
 ghost use Rattle.wm_machine.specs.exact.Steps.{machine_in_custom, machine_in_member, machine_refused};
 ghost use Rattle.wm_machine.specs.exact.Steps.{section_start, machine_after_count, machine_after_paired_count};
-ghost use Rattle.wm_machine.specs.exact.Steps.{count_step, after_size, size_step, custom_size};
+ghost use Rattle.wm_machine.specs.exact.Steps.{count_event, count_step, after_size, size_step, custom_size};
 ghost use Rattle.wm_machine.specs.exact.Steps.{custom_size_step, header_step, step_of};
 
 use crate::machine::member::{InMember, SectionKind};
-use crate::machine::{Counts, Event, InCustom, Machine, NameKind};
+use crate::machine::{Counts, Event, InCustom, Machine, NameKind, Plain};
 use crate::step::members::{begin, member_byte};
 use wm_syntax::numbers::{Num32, Step};
 use wm_syntax::profile::Profile;
@@ -94,7 +94,7 @@ pub fn framed(of: SectionKind, counts: Counts, bytes: u32, left: u32, at: InMemb
     let (left, at) = match at {
         InMember::Failed(why) => return Machine::Refused(why),
         InMember::Over if left == 0 && bytes == 0 => {
-            let last = of.id();
+            let last = of.rank();
             return Machine::Between { last, counts };
         }
         InMember::Over if left == 0 => return Machine::Refused(Why::SectionEnd),
@@ -125,14 +125,26 @@ fn listed(of: SectionKind, counts: Counts, bytes: u32, count: u32) -> Machine
     }
 }
 
-/// Returns the state after the member count of a section, and keeps the count of the function section. Refuses with
-/// `CodeCount` if the code section has another count.
+/// Returns the state after the number at the front of a section. Keeps the count of the function section and the number
+/// in the data count section. Refuses with `CodeCount` or `DataCount` if the code or data section has another count.
 pub fn counted(of: SectionKind, counts: Counts, bytes: u32, count: u32) -> Machine
     ensures { result ≡ machine_after_paired_count of counts bytes count }
 {
     match of {
         SectionKind::Code if count != counts.functions => Machine::Refused(Why::CodeCount),
+        SectionKind::Segment if !counts.allows_segments(count) => Machine::Refused(Why::DataCount),
+        SectionKind::DataCount => listed(of, counts.in_section(of, count), bytes, 0),
         _ => listed(of, counts.in_section(of, count), bytes, count),
+    }
+}
+
+// Returns the effect of the last byte of the number at the front of a section
+fn count_event(of: SectionKind, count: u32) -> Event
+    ensures { result ≡ count_event of count }
+{
+    match of {
+        SectionKind::DataCount => Event::Complete(Plain::DataCount(count)),
+        _ => Event::Nothing,
     }
 }
 
@@ -159,13 +171,13 @@ fn count(
                 Event::Nothing,
             )
         }
-        Step::Done(n) => (counted(of, counts, more, n), Event::Nothing),
+        Step::Done(n) => (counted(of, counts, more, n), count_event(of, n)),
         Step::Bad => refused(Why::BadNumber),
     }
 }
 
-fn section_start(last: u8, counts: Counts, byte: u8) -> (Machine, Event)
-    ensures { result ≡ section_start last counts byte }
+fn section_start(profile: Profile, last: u8, counts: Counts, byte: u8) -> (Machine, Event)
+    ensures { result ≡ section_start profile last counts byte }
 {
     let number = Num32::new();
     if byte == 0 {
@@ -178,9 +190,9 @@ fn section_start(last: u8, counts: Counts, byte: u8) -> (Machine, Event)
             Event::Nothing,
         );
     }
-    match SectionKind::of(byte) {
+    match SectionKind::of(profile, byte) {
         None => refused(Why::SectionId),
-        Some(_) if byte <= last => refused(Why::SectionOrder),
+        Some(of) if of.rank() <= last => refused(Why::SectionOrder),
         Some(SectionKind::Segment) if counts.functions > 0 => refused(Why::CodeCount),
         Some(of) => (Machine::Size { of, counts, number }, Event::Nothing),
     }
@@ -285,7 +297,7 @@ fn stepped(profile: Profile, machine: Machine, byte: u8) -> (Machine, Event)
 {
     match machine {
         Machine::Header(at) => in_header(at, byte),
-        Machine::Between { last, counts } => section_start(last, counts, byte),
+        Machine::Between { last, counts } => section_start(profile, last, counts, byte),
         Machine::CustomSize {
             last,
             counts,

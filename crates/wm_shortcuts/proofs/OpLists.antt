@@ -24,16 +24,17 @@ use Rattle.wm_syntax.specs.declared.instructions.Saturation.{Saturation as ASatu
 use Rattle.wm_syntax.specs.declared.instructions.Simple.TheVariants as simple
 use Rattle.wm_machine.specs.declared.step.reading.Reading.{Reading}
 use Rattle.wm_machine.specs.declared.step.reading.Reading.TheVariants.{More, Done, Bad}
-use Rattle.wm_machine.specs.declared.step.ops.Indexed.{Indexed}
-use Rattle.wm_machine.specs.declared.step.ops.LoadOrStore.{LoadOrStore}
-use Rattle.wm_machine.specs.declared.step.ops.LoadOrStore.TheVariants as accesses
-use Rattle.wm_machine.specs.declared.step.ops.BlockOp.{BlockOp}
-use Rattle.wm_machine.specs.declared.step.ops.BlockOp.TheVariants as openings
-use Rattle.wm_machine.specs.declared.step.ops.MemoryOp.{MemoryOp}
-use Rattle.wm_machine.specs.declared.step.ops.MemoryOp.TheVariants as memories
+use Rattle.wm_syntax.specs.declared.instructions.op_class.Indexed.{Indexed}
+use Rattle.wm_syntax.specs.declared.instructions.op_class.LoadOrStore.{LoadOrStore}
+use Rattle.wm_syntax.specs.declared.instructions.op_class.LoadOrStore.TheVariants as accesses
+use Rattle.wm_syntax.specs.declared.instructions.op_class.BlockOp.{BlockOp}
+use Rattle.wm_syntax.specs.declared.instructions.op_class.BlockOp.TheVariants as openings
+use Rattle.wm_syntax.specs.declared.instructions.op_class.MemoryOp.{MemoryOp}
+use Rattle.wm_syntax.specs.declared.instructions.op_class.MemoryOp.TheVariants as memories
 use Rattle.wm_machine.specs.declared.step.ops.InOp.{InOp}
 use Rattle.wm_machine.specs.declared.step.ops.InOp.TheVariants as at
-use Rattle.wm_machine.specs.exact.OpSteps.{op_push, class_step, on_answer, index_op, access_op, call_op, memory_op, block_op, block_step, const_32_op, const_64_op, float_32_op, float_64_op, fresh_index, fresh_access, access_class, pushed_32, pushed_64}
+use Rattle.wm_machine.specs.exact.OpSteps.{op_push, class_step, on_answer, call_op, block_step, const_32_op, const_64_op, float_32_op, float_64_op, fresh_index, fresh_access, pushed_32, pushed_64}
+use Rattle.wm_syntax.specs.exact.OpShapes.{index_op, access_op, memory_op, block_op}
 use Rattle.wm_machine.specs.exact.ExpressionSteps.{at_next_op, deeper, after_op}
 use Rattle.wm_shortcuts.specs.exact.WholeOps.{GaveAs, TookAs, NumberGoes, IsNumber, LiesAt, OpGoes, IsOp, HasNumeric, OpUnder, WholeOp, class_row, first_read}
 use Rattle.wm_shortcuts.specs.declared.whole_ops.Read.{Read}
@@ -44,7 +45,8 @@ use Rattle.wm_shortcuts.proofs.WholeNumbers.{one_range}
 use Rattle.std.specs.Prelude.{if◌then◌else◌}
 use Rattle.wm_syntax.specs.Profiles.{has, has_prefix}
 use Rattle.wm_syntax.specs.declared.profile.Feature.{Feature}
-use Rattle.wm_syntax.specs.declared.profile.Feature.TheVariants.{Copies, LongIndex, Saturation}
+use Rattle.wm_syntax.specs.declared.profile.Feature.TheVariants.{BulkMemory, Copies, LongIndex, Saturation}
+use Rattle.wm_machine.specs.declared.step.ops.TableOp.TheVariants as tables
 
 -- a slice in two
 drop_drop : (xs : List ℕ) (i j : ℕ) → drop j (drop i xs) ≡ drop (i + j) xs
@@ -205,11 +207,10 @@ access_rest p bytes i middle next m n a align offset =
     (number_then p (unsigned_push 32) (at.Align a) (λ v. at.Offset a v fresh) (λ r c. refl) fresh (slice_range bytes (i + 1) middle) (slice_range bytes middle next) m (access_op a (record { align = m; offset = n })) align.spelled
     (number_ends p (unsigned_push 32) (at.Offset a m) (λ v. access_op a (record { align = m; offset = v })) (λ r c. refl) fresh (slice_range bytes middle next) n offset.spelled))
 
-access_begins : (a : LoadOrStore) → class_step (access_class a) ≡ More (fresh_access a)
-access_begins (accesses.Load o) = refl
-access_begins (accesses.Store o) = refl
+access_begins : (a : LoadOrStore) → class_step (class.With (kinds.Access a)) ≡ More (fresh_access a)
+access_begins a = refl
 
-pub under_access : (p : Profile) (bytes : List ℕ) (i middle next depth m n : ℕ) (a : LoadOrStore) → class_row p (slice_index bytes i) ≡ access_class a → LiesAt (unsigned_push 32) bytes (i + 1) middle m
+pub under_access : (p : Profile) (bytes : List ℕ) (i middle next depth m n : ℕ) (a : LoadOrStore) → class_row p (slice_index bytes i) ≡ class.With (kinds.Access a) → LiesAt (unsigned_push 32) bytes (i + 1) middle m
     → LiesAt (unsigned_push 32) bytes middle next n → OpUnder p bytes i next depth depth (access_op a (record { align = m; offset = n }))
 under_access p bytes i middle next depth m n a is align offset = record {
   some = omega arith;
@@ -221,23 +222,23 @@ under_access p bytes i middle next depth m n a is align offset = record {
 
 -- the table index of an indirect call: the byte 00, or four bytes 80 before it
 table_more : (p : Profile) (bytes : List ℕ) (i j k n left : ℕ) → IsTrue (has p LongIndex) → i < length bytes → i < k → i + 1 ≡ j → slice_index bytes i ≡ 0x80
-    → IsOp p (at.CallTable n left) (slice_range bytes j k) (call_op n) → IsOp p (at.CallTable n (suc left)) (slice_range bytes i k) (call_op n)
+    → IsOp p (at.Table (tables.Call n) left) (slice_range bytes j k) (call_op n) → IsOp p (at.Table (tables.Call n) (suc left)) (slice_range bytes i k) (call_op n)
 table_more p bytes i j k n left long within less next is rest =
     let r : List ℕ = slice_range bytes (i + 1) k in
     let o : Op = call_op n in
-    subst (λ (y : List ℕ). IsOp p (at.CallTable n (suc left)) y o) (sym (range_first bytes i k within less))
-    (subst (λ c. IsOp p (at.CallTable n (suc left)) (c ∷ r) o) (sym is)
-    (subst (λ (b : Bool). OpGoes (if b then More (at.CallTable n left) else Bad why.BadByte) (λ q. IsOp p q r o) r o) (sym long)
-    (subst (λ m. IsOp p (at.CallTable n left) (slice_range bytes m k) o) (sym next) rest)))
+    subst (λ (y : List ℕ). IsOp p (at.Table (tables.Call n) (suc left)) y o) (sym (range_first bytes i k within less))
+    (subst (λ c. IsOp p (at.Table (tables.Call n) (suc left)) (c ∷ r) o) (sym is)
+    (subst (λ (b : Bool). OpGoes (if b then More (at.Table (tables.Call n) left) else Bad why.BadByte) (λ q. IsOp p q r o) r o) (sym long)
+    (subst (λ m. IsOp p (at.Table (tables.Call n) left) (slice_range bytes m k) o) (sym next) rest)))
 
-pub table_of_one : (p : Profile) (bytes : List ℕ) (i j left : ℕ) → i < length bytes → i + 1 ≡ j → slice_index bytes i ≡ 0x00 → (n : ℕ) → IsOp p (at.CallTable n left) (slice_range bytes i j) (call_op n)
+pub table_of_one : (p : Profile) (bytes : List ℕ) (i j left : ℕ) → i < length bytes → i + 1 ≡ j → slice_index bytes i ≡ 0x00 → (n : ℕ) → IsOp p (at.Table (tables.Call n) left) (slice_range bytes i j) (call_op n)
 table_of_one p bytes i j left within next is n =
-    subst (λ m. IsOp p (at.CallTable n left) (slice_range bytes i m) (call_op n)) next
-    (subst (λ (y : List ℕ). IsOp p (at.CallTable n left) y (call_op n)) (sym (one_range bytes i within))
-    (subst (λ c. IsOp p (at.CallTable n left) (c ∷ []) (call_op n)) (sym is) (refl, refl)))
+    subst (λ m. IsOp p (at.Table (tables.Call n) left) (slice_range bytes i m) (call_op n)) next
+    (subst (λ (y : List ℕ). IsOp p (at.Table (tables.Call n) left) y (call_op n)) (sym (one_range bytes i within))
+    (subst (λ c. IsOp p (at.Table (tables.Call n) left) (c ∷ []) (call_op n)) (sym is) (refl, refl)))
 
 pub table_of_five : (p : Profile) (bytes : List ℕ) (i : ℕ) → IsTrue (has p LongIndex) → i + 4 < length bytes → slice_index bytes i ≡ 0x80 → slice_index bytes (i + 1) ≡ 0x80 → slice_index bytes (i + 2) ≡ 0x80
-    → slice_index bytes (i + 3) ≡ 0x80 → slice_index bytes (i + 4) ≡ 0x00 → (n : ℕ) → IsOp p (at.CallTable n 4) (slice_range bytes i (i + 5)) (call_op n)
+    → slice_index bytes (i + 3) ≡ 0x80 → slice_index bytes (i + 4) ≡ 0x00 → (n : ℕ) → IsOp p (at.Table (tables.Call n) 4) (slice_range bytes i (i + 5)) (call_op n)
 table_of_five p bytes i long within a b c d e n =
     table_more p bytes i (i + 1) (i + 5) n 3 long (omega arith) (omega arith) refl a
     (table_more p bytes (i + 1) (i + 2) (i + 5) n 2 long (omega arith) (omega arith) (omega arith) b
@@ -247,22 +248,22 @@ table_of_five p bytes i long within a b c d e n =
 
 -- an indirect call: the number of a type, and the table index
 pub under_call_indirect : (p : Profile) (bytes : List ℕ) (i middle next depth n : ℕ) → class_row p (slice_index bytes i) ≡ class.With kinds.CallIndirect → LiesAt (unsigned_push 32) bytes (i + 1) middle n
-    → middle < next → next ≤ length bytes → ((n : ℕ) → IsOp p (at.CallTable n 4) (slice_range bytes middle next) (call_op n)) → OpUnder p bytes i next depth depth (call_op n)
+    → middle < next → next ≤ length bytes → ((n : ℕ) → IsOp p (at.Table (tables.Call n) 4) (slice_range bytes middle next) (call_op n)) → OpUnder p bytes i next depth depth (call_op n)
 under_call_indirect p bytes i middle next depth n is ty more within table = record {
   some = omega arith;
   within = within;
   spelled = first_under p bytes i next (at.CallType fresh) (call_op n) (omega arith) (omega arith) (ap class_step is)
       (subst (λ (y : List ℕ). IsOp p (at.CallType fresh) y (call_op n)) (sym (range_split bytes (i + 1) middle next (omega arith) (omega arith)))
-      (number_then p (unsigned_push 32) at.CallType (λ v. at.CallTable v 4) (λ r c. refl) fresh (slice_range bytes (i + 1) middle) (slice_range bytes middle next) n (call_op n) ty.spelled (table n)));
+      (number_then p (unsigned_push 32) at.CallType (λ v. at.Table (tables.Call v) 4) (λ r c. refl) fresh (slice_range bytes (i + 1) middle) (slice_range bytes middle next) n (call_op n) ty.spelled (table n)));
   opens = refl;
 }
 
 -- a memory instruction: the byte 00
 memory_opens : (x : MemoryOp) (depth : ℕ) → after_op depth (memory_op x) ≡ at_next_op depth
-memory_opens memories.Size depth = refl
-memory_opens memories.Grow depth = refl
-memory_opens memories.Copy depth = refl
-memory_opens memories.Fill depth = refl
+memory_opens memories.MemorySize depth = refl
+memory_opens memories.MemoryGrow depth = refl
+memory_opens memories.MemoryCopy depth = refl
+memory_opens memories.MemoryFill depth = refl
 
 pub whole_memory : (bytes : List ℕ) (i depth : ℕ) (x : MemoryOp) → i + 1 < length bytes → Begins bytes i (at.Memory x) → slice_index bytes (i + 1) ≡ 0x00
     → WholeOp bytes i (i + 2) depth depth (memory_op x)
@@ -280,15 +281,17 @@ closed_at p bytes i k x within next closed =
     subst (λ (y : List ℕ). IsOp p (at.Memory x) y (memory_op x)) (sym (ap (slice_range bytes i) (sym next) ∙ one_range bytes i within))
     (subst (λ c. IsOp p (at.Memory x) (c ∷ []) (memory_op x)) (sym closed) (refl, refl))
 
-two_closed : (p : Profile) (bytes : List ℕ) (i k : ℕ) → i + 1 < length bytes → i + 2 ≡ k → slice_index bytes i ≡ 0x00 → slice_index bytes (i + 1) ≡ 0x00 → IsOp p at.FirstZero (slice_range bytes i k) (memory_op memories.Copy)
+two_closed : (p : Profile) (bytes : List ℕ) (i k : ℕ) → i + 1 < length bytes → i + 2 ≡ k → slice_index bytes i ≡ 0x00 → slice_index bytes (i + 1) ≡ 0x00 → IsOp p at.FirstZero (slice_range bytes i k) (memory_op memories.MemoryCopy)
 two_closed p bytes i k within next first second =
-    subst (λ (y : List ℕ). IsOp p at.FirstZero y (memory_op memories.Copy)) (sym (range_first bytes i k (omega arith) (omega arith)))
-    (subst (λ c. IsOp p at.FirstZero (c ∷ slice_range bytes (i + 1) k) (memory_op memories.Copy)) (sym first) (closed_at p bytes (i + 1) k memories.Copy within (omega arith) second))
+    subst (λ (y : List ℕ). IsOp p at.FirstZero y (memory_op memories.MemoryCopy)) (sym (range_first bytes i k (omega arith) (omega arith)))
+    (subst (λ c. IsOp p at.FirstZero (c ∷ slice_range bytes (i + 1) k) (memory_op memories.MemoryCopy)) (sym first) (closed_at p bytes (i + 1) k memories.MemoryCopy within (omega arith) second))
 
 -- the op behind FC: alone, or with its zeros
 either_feature : (p : Profile) (f : Feature) → f ≡ Saturation ⊎ f ≡ Copies → IsTrue (has p f) → IsTrue (has_prefix p)
-either_feature p f (inl is) sure = ap (λ b. b || has p Copies) (subst (λ g. IsTrue (has p g)) is sure) ∙ true-or (has p Copies)
-either_feature p f (inr is) sure = ap (λ b. has p Saturation || b) (subst (λ g. IsTrue (has p g)) is sure) ∙ or-true (has p Saturation)
+either_feature p f (inl is) sure = ap (λ b. b || (has p Copies || has p BulkMemory)) (subst (λ g. IsTrue (has p g)) is sure) ∙ true-or (has p Copies || has p BulkMemory)
+either_feature p f (inr is) sure =
+    ap (λ b. has p Saturation || (b || has p BulkMemory)) (subst (λ g. IsTrue (has p g)) is sure)
+    ∙ (ap (λ b. has p Saturation || b) (true-or (has p BulkMemory)) ∙ or-true (has p Saturation))
 
 row_under : (p : Profile) (code : ℕ) (row : OpClass) → slice_get classes code ≡ Some row → IsTrue (has p (class_feature row)) → row ≡ class_under p code
 unfolding class_under
@@ -311,20 +314,20 @@ module _ (p : Profile) (bytes : List ℕ) (i depth code : ℕ) (within : i + 1 <
       none : slice_range bytes (i + 2) (i + 2) ≡ []
       none = ap (λ n. take n (drop (i + 2) bytes)) (let e : (i + 2) - (i + 2) ≡ 0 = omega arith in e)
 
-  pub behind_fill : code ≡ 0x10B → IsTrue (has p Copies) → i + 2 < length bytes → slice_index bytes (i + 2) ≡ 0x00 → OpUnder p bytes i (i + 3) depth depth (memory_op memories.Fill)
+  pub behind_fill : code ≡ 0x10B → IsTrue (has p Copies) → i + 2 < length bytes → slice_index bytes (i + 2) ≡ 0x00 → OpUnder p bytes i (i + 3) depth depth (memory_op memories.MemoryFill)
   behind_fill is sure more closed = record {
     some = omega arith;
     within = omega arith;
-    spelled = behind (class.With kinds.MemoryFill) (i + 3) (memory_op memories.Fill) (omega arith) (ap (slice_get classes) is) (inr refl) sure (closed_at p bytes (i + 2) (i + 3) memories.Fill more (omega arith) closed);
+    spelled = behind (class.With (kinds.Memory memories.MemoryFill)) (i + 3) (memory_op memories.MemoryFill) (omega arith) (ap (slice_get classes) is) (inr refl) sure (closed_at p bytes (i + 2) (i + 3) memories.MemoryFill more (omega arith) closed);
     opens = refl;
   }
 
-  pub behind_copy : code ≡ 0x10A → IsTrue (has p Copies) → i + 3 < length bytes → slice_index bytes (i + 2) ≡ 0x00 → slice_index bytes (i + 3) ≡ 0x00 → OpUnder p bytes i (i + 4) depth depth (memory_op memories.Copy)
+  pub behind_copy : code ≡ 0x10A → IsTrue (has p Copies) → i + 3 < length bytes → slice_index bytes (i + 2) ≡ 0x00 → slice_index bytes (i + 3) ≡ 0x00 → OpUnder p bytes i (i + 4) depth depth (memory_op memories.MemoryCopy)
   behind_copy is sure more closed next =
       let three : i + 3 ≡ (i + 2) + 1 = omega arith in record {
         some = omega arith;
         within = omega arith;
-        spelled = behind (class.With kinds.MemoryCopy) (i + 4) (memory_op memories.Copy) (omega arith) (ap (slice_get classes) is) (inr refl) sure
+        spelled = behind (class.With (kinds.Memory memories.MemoryCopy)) (i + 4) (memory_op memories.MemoryCopy) (omega arith) (ap (slice_get classes) is) (inr refl) sure
             (two_closed p bytes (i + 2) (i + 4) (omega arith) (omega arith) closed (subst (λ n. slice_index bytes n ≡ 0x00) three next));
         opens = refl;
       }

@@ -1,7 +1,7 @@
 //! Fast paths for bytes without inner structure: those of a data segment (Core spec 5.5.14), and those of a custom
 //! section after its name (Core spec 5.5.3).
 
-ghost use Rattle.std.specs.Prelude.{◌<◌, length};
+ghost use Rattle.std.specs.Prelude.{◌≡◌, ◌-◌, ◌<◌, length, min};
 ghost use Rattle.wm_shortcuts.specs.exact.Shortcuts.{Advances};
 
 use crate::give::give_bytes;
@@ -63,27 +63,26 @@ pub(crate) fn pass<S: Sink>(
     ensures { Advances S.after S.may_run_out profile bytes.now machine.old (S.held sink.now) result
         machine.new (S.held sink.now) }
 {
-    let Machine::Custom {
-        last,
-        counts,
-        more,
-        part,
-    } = *machine
-    else {
-        return Shortcut::none();
-    };
-    let InCustom::Skip = part else {
-        return Shortcut::none();
-    };
-    let used = min_len(more, bytes.len());
-    *machine = Machine::Custom {
-        last,
-        counts,
-        more: more - used,
-        part,
-    };
-    Shortcut {
-        used: used as usize,
-        refused: None,
+    match machine {
+        Machine::Custom {
+            more,
+            part: InCustom::Skip,
+            ..
+        } => Shortcut {
+            used: take_most(more, bytes.len()),
+            refused: None,
+        },
+        _ => Shortcut::none(),
     }
+}
+
+// Lowers the count by the length, to 0 at least. Returns by how much.
+#[inline(always)]
+fn take_most(count: &mut u32, len: usize) -> usize
+    ensures value { result ≡ min count.old len }
+    ensures left { count.new ≡ count.old - result }
+{
+    let used = min_len(*count, len);
+    *count -= used;
+    used as usize
 }

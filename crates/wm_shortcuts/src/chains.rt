@@ -63,8 +63,6 @@ pub(crate) fn repeated<A: Link, S: Sink>(
             return Shortcut { used, refused };
         }
     }
-    Shortcut {
-        used,
-        refused: None,
-    }
+    let refused = None;
+    Shortcut { used, refused }
 }

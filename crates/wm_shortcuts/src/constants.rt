@@ -6,8 +6,8 @@ ghost use Rattle.std.specs.Prelude.{◌≡◌, ◌+◌, ◌<◌, IfSome, length,
 ghost use Rattle.wm_shortcuts.specs.exact.WholeOps.{WholeOp};
 
 use crate::whole_ops::{Read, const_32, const_64, with_index};
-use wm_machine::step::ops::Indexed;
 use wm_syntax::instructions::Op;
+use wm_syntax::instructions::op_class::Indexed;
 
 /// The instruction of a constant expression, and the index of the `end` after it.
 #[derive(Clone, Copy)]

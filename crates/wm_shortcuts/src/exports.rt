@@ -123,10 +123,8 @@ impl Link for ExportsBeforeLast {
             }
         }
         *machine = start.after(used as u32, left).before(SectionKind::Export);
-        Shortcut {
-            used,
-            refused: None,
-        }
+        let refused = None;
+        Shortcut { used, refused }
     }
 }
 

@@ -10,17 +10,18 @@ use wm_machine::machine::member::SectionKind;
 use wm_machine::machine::{Counts, Machine};
 use wm_machine::step::counted;
 use wm_syntax::numbers::{Num32, Step};
+use wm_syntax::profile::Profile;
 
-/// Returns the kind of section that this id begins.
+/// Returns the kind of section that this id begins under every profile. The data count section takes the slow path.
 #[inline(always)]
 pub(crate) fn begun(last: u8, counts: Counts, byte: u8) -> Option<SectionKind>
     ensures { IfSome result (λ of. IsFrameStep (Machine.Between last counts) byte
         (Machine.Size of counts fresh)) }
 {
-    let of = SectionKind::of(byte)?;
+    let of = SectionKind::of(Profile::ONE, byte)?;
     match of {
         SectionKind::Segment if counts.functions > 0 => None,
-        _ if byte <= last => None,
+        _ if of.rank() <= last => None,
         _ => Some(of),
     }
 }
@@ -60,7 +61,8 @@ pub(crate) fn size_more(
     }
 }
 
-/// Returns the machine after the member count of a section, if this byte ends it.
+/// Returns the machine after the member count of a section, if this byte ends it. The number in the data count section
+/// is an item, and takes the slow path.
 #[inline(always)]
 pub(crate) fn count_end(
     of: SectionKind,
@@ -76,6 +78,7 @@ pub(crate) fn count_end(
     };
     match counted(of, counts, more, n) {
         Machine::Refused(_) => None,
+        _ if matches!(of, SectionKind::DataCount) => None,
         next => Some(next),
     }
 }

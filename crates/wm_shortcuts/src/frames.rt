@@ -145,10 +145,8 @@ pub(crate) fn frames<S: Sink>(
         Machine::Header(_) | Machine::Refused(_) => Shortcut::none(),
         _ => {
             let used = sections(machine, profile, bytes);
-            Shortcut {
-                used,
-                refused: None,
-            }
+            let refused = None;
+            Shortcut { used, refused }
         }
     }
 }

@@ -7,7 +7,8 @@ ghost use Rattle.wm_machine.specs.Sinks.{Taken, all_taken};
 ghost use Rattle.wm_machine.specs.exact.Runs.{name_item, plain_item};
 ghost use Rattle.wm_machine.specs.exact.Live.{MayRunOutAt, name_taken, effect_of_maybe};
 ghost use Rattle.wm_syntax.specs.declared.why.Why.TheVariants.{Memory};
-ghost use Rattle.wm_machine.specs.Items.{body, body_op, data_byte, export, import_desc, locals, new_type};
+ghost use Rattle.wm_machine.specs.Items.{body, body_op, const_op, data_byte, export, global, import_desc, locals};
+ghost use Rattle.wm_machine.specs.Items.{new_type};
 ghost use Rattle.wm_machine.specs.Items.{one_result, param, result_count};
 ghost use Rattle.wm_syntax.specs.declared.modules.ImportDesc.TheVariants as ImportDesc;
 ghost use Rattle.wm_shortcuts.specs.exact.Indices.{index_item_in};
@@ -20,7 +21,7 @@ use wm_machine::sink::Sink;
 use wm_syntax::instructions::Op;
 use wm_syntax::modules::ExportKind;
 use wm_syntax::names::is_name;
-use wm_syntax::types::ValType;
+use wm_syntax::types::{GlobalType, ValType};
 use wm_syntax::why::Why;
 
 // Whether the bytes are UTF-8; the contract names `is_utf8`, as the exact answers do
@@ -147,6 +148,22 @@ pub(crate) fn give_import<S: Sink>(sink: &mut S, function: u32) -> Result<(), Wh
         → S.may_run_out (S.held sink.old) (import_desc (ImportDesc.Func function))) }
 {
     sink.take(Item::ImportFunc(function))
+}
+
+#[inline(always)]
+pub(crate) fn give_global<S: Sink>(sink: &mut S, ty: GlobalType) -> Result<(), Why>
+    ensures given { Taken (S.after (S.held sink.old) (global ty)) result (S.held sink.new) }
+    ensures room { IfErr result (λ w. w ≡ Memory → S.may_run_out (S.held sink.old) (global ty)) }
+{
+    sink.take(Item::Global(ty))
+}
+
+#[inline(always)]
+pub(crate) fn give_constant<S: Sink>(sink: &mut S, op: Op) -> Result<(), Why>
+    ensures given { Taken (S.after (S.held sink.old) (const_op op)) result (S.held sink.new) }
+    ensures room { IfErr result (λ w. w ≡ Memory → S.may_run_out (S.held sink.old) (const_op op)) }
+{
+    sink.take(Item::ConstOp(op))
 }
 
 // Out of line: it has two callers, and each would get a copy

@@ -11,11 +11,11 @@ ghost use Rattle.wm_shortcuts.specs.exact.WholeOps.{WholeOp};
 
 use crate::chains::{Link, repeated};
 use crate::constants::{Constant, constant_at};
-use crate::give::give;
+use crate::give::{give_constant, give_global};
 use crate::in_section::InSection;
 use crate::ways::Shortcut;
+use wm_machine::machine::Machine;
 use wm_machine::machine::member::{InMember, SectionKind};
-use wm_machine::machine::{Machine, Plain};
 use wm_machine::sink::Sink;
 use wm_machine::step::values::{InGlobalType, value_type};
 use wm_syntax::instructions::Op;
@@ -88,14 +88,14 @@ impl Link for Global {
         if stop > start.more as usize {
             return Shortcut::none();
         }
-        if let Err(why) = give(sink, Plain::Global(found.ty)) {
+        if let Err(why) = give_global(sink, found.ty) {
             return Shortcut::out(2, why);
         }
-        if let Err(why) = give(sink, Plain::ConstOp(found.value.op)) {
+        if let Err(why) = give_constant(sink, found.value.op) {
             return Shortcut::out(stop, why);
         }
         *machine = start.over(SectionKind::Global, stop as u32);
-        let given = give(sink, Plain::ConstOp(Op::End));
+        let given = give_constant(sink, Op::End);
         Shortcut::ended(stop + 1, given, machine)
     }
 }

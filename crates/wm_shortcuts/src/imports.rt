@@ -113,8 +113,6 @@ pub(crate) fn imports<S: Sink>(
         }
     }
     *machine = start.after(used as u32, left).before(SectionKind::Import);
-    Shortcut {
-        used,
-        refused: None,
-    }
+    let refused = None;
+    Shortcut { used, refused }
 }

@@ -262,12 +262,16 @@ pub(crate) fn indices<S: Sink>(
         machine.new (S.held sink.new) }
 {
     // a single byte that begins a longer index takes the slow path
-    if bytes.len() == 1 && bytes[0] >= 0x80 {
+    let single = bytes.len() == 1;
+    if single && bytes[0] >= 0x80 {
         return Shortcut::none();
     }
     let Some(before) = InIndices::of(*machine) else {
         return Shortcut::none();
     };
+    if single {
+        return whole_indices(sink, machine, before, profile, bytes);
+    }
     let most = min_len(before.most(), bytes.len());
     let count = short_front(&bytes[..most as usize]);
     if count < 2 {

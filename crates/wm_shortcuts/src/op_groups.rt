@@ -3,7 +3,7 @@
 ghost use Rattle.std.specs.Prelude.{◌≢◌, ◌≤◌, ◌⊎◌};
 ghost use Rattle.wm_shortcuts.specs.exact.WholeOps.{HasAccess, HasNumeric};
 
-use wm_machine::step::ops::LoadOrStore;
+use wm_syntax::instructions::op_class::LoadOrStore;
 use wm_syntax::instructions::{
     BinaryOp, Comparison, Conversion, FloatBinaryOp, FloatComparison, FloatType, FloatUnaryOp,
     IntType, LoadOp, Numeric, Saturation, SignExtension, StoreOp, UnaryOp,

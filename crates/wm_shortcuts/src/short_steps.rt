@@ -151,9 +151,7 @@ pub(crate) fn local_type_byte(
     if more == 0 {
         return None;
     }
-    let Ok(ty) = value_type(profile, byte) else {
-        return None;
-    };
+    let ty = value_type(profile, byte).ok()?;
     let at = runs_or_body(runs);
     Some(Stepped {
         left,
@@ -202,9 +200,7 @@ pub(crate) fn param_count_byte(
 pub(crate) fn param_byte(profile: Profile, left: u32, more: u32, byte: u8) -> Option<Stepped>
     ensures { IfSome result (λ s. StepsTo profile SectionKind.Type left (InMember.Param more) byte s) }
 {
-    let Ok(ty) = value_type(profile, byte) else {
-        return None;
-    };
+    let ty = value_type(profile, byte).ok()?;
     Some(Stepped {
         left,
         at: after_param(more),
@@ -239,9 +235,7 @@ pub(crate) fn result_count_byte(
 pub(crate) fn result_byte(profile: Profile, left: u32, more: u32, byte: u8) -> Option<Stepped>
     ensures { IfSome result (λ s. StepsTo profile SectionKind.Type left (InMember.ResultType more) byte s) }
 {
-    let Ok(ty) = value_type(profile, byte) else {
-        return None;
-    };
+    let ty = value_type(profile, byte).ok()?;
     let part = Some(Plain::OneResult(ty));
     if more > 0 {
         let at = InMember::ResultType { more: more - 1 };

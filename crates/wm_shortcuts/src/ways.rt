@@ -16,7 +16,7 @@ use crate::indices::indices;
 use crate::limited::limited_member;
 use crate::segments::segment_head;
 use crate::short_bytes::short;
-use wm_machine::machine::member::{InEntry, InMember, IndexOf, SectionKind};
+use wm_machine::machine::member::{InEntry, InMember, SectionKind};
 use wm_machine::machine::{Machine, refusal_of};
 use wm_machine::sink::Sink;
 use wm_machine::step::expressions::InExpression;
@@ -149,17 +149,15 @@ fn way_in_globals(at: InMember) -> Way {
 
 fn way_in_elements(at: InMember) -> Way {
     match at {
-        InMember::Index { of, .. } => match of {
-            IndexOf::Element => Way::Segment,
-            _ => Way::Indices,
-        },
+        InMember::SegmentStart { .. } => Way::Segment,
+        InMember::Index { .. } => Way::Indices,
         _ => Way::One,
     }
 }
 
 fn way_in_data(at: InMember) -> Way {
     match at {
-        InMember::Index { .. } => Way::Segment,
+        InMember::SegmentStart { .. } => Way::Segment,
         InMember::Data { .. } => Way::Data,
         _ => Way::One,
     }

@@ -103,8 +103,6 @@ pub(crate) fn whole_indices<S: Sink>(
         }
     }
     *machine = before.after(used as u32, count);
-    Shortcut {
-        used,
-        refused: None,
-    }
+    let refused = None;
+    Shortcut { used, refused }
 }

@@ -7,9 +7,11 @@ ghost use Rattle.std.specs.Prelude.{slice_index, slice_range};
 ghost use Rattle.wm_syntax.specs.declared.profile.Profile.{Profile};
 ghost use Rattle.wm_syntax.specs.exact.Reading.{fresh};
 ghost use Rattle.wm_machine.specs.declared.step.reading.Reading.TheVariants.{More};
-ghost use Rattle.wm_machine.specs.declared.step.ops.InOp.TheVariants.{BlockType, CallTable, Const32};
+ghost use Rattle.wm_machine.specs.declared.step.ops.InOp.TheVariants.{BlockType, Const32, Table};
+ghost use Rattle.wm_machine.specs.declared.step.ops.TableOp.TheVariants.{Call};
 ghost use Rattle.wm_machine.specs.declared.step.ops.InOp.TheVariants.{Const64, Memory};
-ghost use Rattle.wm_machine.specs.exact.OpSteps.{access_class, call_op, fresh_index, index_op};
+ghost use Rattle.wm_machine.specs.exact.OpSteps.{call_op, fresh_index};
+ghost use Rattle.wm_syntax.specs.exact.OpShapes.{index_op};
 ghost use Rattle.wm_machine.specs.exact.ExpressionSteps.{after_op, at_next_op};
 ghost use Rattle.wm_shortcuts.specs.exact.WholeOps.{GaveAs, IsOp, OpFrom, OpUnder, RanTo, TookAs, WholeOp};
 ghost use Rattle.wm_shortcuts.specs.exact.WholeOps.{class_at, class_row, first_read};
@@ -21,14 +23,16 @@ use crate::op_groups::{
 use crate::whole_numbers::{s32_at, s64_at, u32_at};
 use wm_machine::item::Item;
 use wm_machine::sink::Sink;
-use wm_machine::step::ops::LoadOrStore::{Load, Store};
-use wm_machine::step::ops::{BlockOp, Indexed, LoadOrStore, MemoryOp, push_32, push_64};
+use wm_machine::step::ops::{push_32, push_64};
 use wm_syntax::instructions::FloatType::{F32, F64};
 use wm_syntax::instructions::IntType::{I32, I64};
 use wm_syntax::instructions::Numeric::{
     Binary, Compare, Convert, ExtendS, ExtendU, FloatUnary, SignExtend, Test, Unary, Wrap,
 };
-use wm_syntax::instructions::op_class::{Immediates, OpClass};
+use wm_syntax::instructions::op_class::LoadOrStore::{Load, Store};
+use wm_syntax::instructions::op_class::{
+    BlockOp, Immediates, Indexed, LoadOrStore, MemoryOp, OpClass,
+};
 use wm_syntax::instructions::{LoadOp, MemArg, Numeric, Op, Simple, StoreOp};
 use wm_syntax::profile::{Feature, Profile};
 use wm_syntax::types::ValType;
@@ -50,6 +54,16 @@ pub(crate) struct Read {
     pub(crate) op: Op,
     pub(crate) next: usize,
     pub(crate) depth: u32,
+}
+
+macro_rules! read {
+    ($op:expr, $next:expr, $depth:expr) => {
+        Some(Read {
+            op: $op,
+            next: $next,
+            depth: $depth,
+        })
+    };
 }
 
 /// The result for one op.
@@ -85,11 +99,7 @@ fn alone(here: OpStart<'_>, op: Op) -> Option<Read>
     ensures { IfSome result (OpFrom here.entry) }
 {
     prove!(here.at < here.bytes.len());
-    Some(Read {
-        op,
-        next: here.at + 1,
-        depth: here.depth,
-    })
+    read!(op, here.at + 1, here.depth)
 }
 
 #[inline(always)]
@@ -102,11 +112,7 @@ fn end(here: OpStart<'_>) -> Option<Read>
     if here.depth == 0 {
         return None;
     }
-    Some(Read {
-        op: Op::End,
-        next: here.at + 1,
-        depth: here.depth - 1,
-    })
+    read!(Op::End, here.at + 1, here.depth - 1)
 }
 
 #[inline(always)]
@@ -127,18 +133,14 @@ pub(crate) fn with_index(bytes: &[u8], at: usize, depth: u32, op: Indexed) -> Op
     ensures { IfSome result (λ r. WholeOp bytes.now at r.next depth r.depth r.op) }
 {
     let index = u32_at(bytes, at + 1)?;
-    Some(Read {
-        op: op.op(index.value),
-        next: index.next,
-        depth,
-    })
+    read!(op.op(index.value), index.next, depth)
 }
 
 // Reads a load or a store
 #[inline(always)]
 fn access(here: OpStart<'_>, op: LoadOrStore) -> Option<Read>
     requires within { here.at + 1 < length here.bytes.now }
-    requires class { class_at here ≡ access_class op }
+    requires class { class_at here ≡ OpClass.With (Immediates.Access op) }
     ensures { IfSome result (OpFrom here.entry) }
 {
     let align = u32_at(here.bytes, here.at + 1)?;
@@ -150,11 +152,7 @@ fn access(here: OpStart<'_>, op: LoadOrStore) -> Option<Read>
         align: align.value,
         offset: offset.value,
     };
-    Some(Read {
-        op: op.op(arg),
-        next: offset.next,
-        depth: here.depth,
-    })
+    read!(op.op(arg), offset.next, here.depth)
 }
 
 #[inline(always)]
@@ -165,11 +163,11 @@ pub(crate) fn const_32(bytes: &[u8], at: usize, depth: u32) -> Option<Read>
     ensures { IfSome result (λ r. WholeOp bytes.now at r.next depth r.depth r.op) }
 {
     let number = s32_at(bytes, at + 1)?;
-    Some(Read {
-        op: Op::Simple(Simple::I32Const(number.value)),
-        next: number.next,
-        depth,
-    })
+    read!(
+        Op::Simple(Simple::I32Const(number.value)),
+        number.next,
+        depth
+    )
 }
 
 #[inline(always)]
@@ -180,11 +178,11 @@ pub(crate) fn const_64(bytes: &[u8], at: usize, depth: u32) -> Option<Read>
     ensures { IfSome result (λ r. WholeOp bytes.now at r.next depth r.depth r.op) }
 {
     let number = s64_at(bytes, at + 1)?;
-    Some(Read {
-        op: Op::Simple(Simple::I64Const(number.value)),
-        next: number.next,
-        depth,
-    })
+    read!(
+        Op::Simple(Simple::I64Const(number.value)),
+        number.next,
+        depth
+    )
 }
 
 #[inline(always)]
@@ -203,11 +201,7 @@ fn with_type(bytes: &[u8], at: usize, depth: u32, op: BlockOp) -> Option<Read>
         0x7E => Some(ValType::I64),
         _ => return None,
     };
-    Some(Read {
-        op: op.op(ty),
-        next: at + 2,
-        depth: depth + 1,
-    })
+    read!(op.op(ty), at + 2, depth + 1)
 }
 
 // Reads a `call_indirect`: a type index, and the table index 0
@@ -219,11 +213,7 @@ fn call_indirect(here: OpStart<'_>) -> Option<Read>
 {
     let ty = u32_at(here.bytes, here.at + 1)?;
     let next = table_end(*here.profile, here.bytes, ty.next)?;
-    Some(Read {
-        op: Op::Simple(Simple::CallIndirect(ty.value)),
-        next,
-        depth: here.depth,
-    })
+    read!(Op::Simple(Simple::CallIndirect(ty.value)), next, here.depth)
 }
 
 // Returns the index after the table index of a `call_indirect`, which begins at the index `at`
@@ -232,7 +222,7 @@ fn call_indirect(here: OpStart<'_>) -> Option<Read>
 fn table_end(profile: Profile, bytes: &[u8], at: usize) -> Option<usize>
     ensures within { IfSome result (λ next. (at < next) × (next ≤ length bytes.now)) }
     ensures table { IfSome result (λ next. (n : ℕ)
-        → IsOp profile (CallTable n 4) (slice_range bytes.now at next) (call_op n)) }
+        → IsOp profile (Table (Call n) 4) (slice_range bytes.now at next) (call_op n)) }
 {
     if at >= bytes.len() {
         return None;
@@ -250,7 +240,7 @@ fn long_table_end(profile: Profile, bytes: &[u8], at: usize) -> Option<usize>
     requires { at < length bytes.now }
     ensures within { IfSome result (λ next. (at < next) × (next ≤ length bytes.now)) }
     ensures table { IfSome result (λ next. (n : ℕ)
-        → IsOp profile (CallTable n 4) (slice_range bytes.now at next) (call_op n)) }
+        → IsOp profile (Table (Call n) 4) (slice_range bytes.now at next) (call_op n)) }
 {
     if !profile.has(Feature::LongIndex) || bytes.len() - at < 5 {
         return None;
@@ -274,11 +264,7 @@ fn memory(bytes: &[u8], at: usize, depth: u32, op: MemoryOp) -> Option<Read>
     if bytes[at + 1] != 0x00 {
         return None;
     }
-    Some(Read {
-        op: op.op(),
-        next: at + 2,
-        depth,
-    })
+    read!(op.op(), at + 2, depth)
 }
 
 // Reads an instruction behind the byte FC whose number is one byte
@@ -310,11 +296,7 @@ fn prefixed(profile: Profile, bytes: &[u8], at: usize, depth: u32) -> Option<Rea
         }
         _ => return None,
     };
-    Some(Read {
-        op: Op::Simple(op),
-        next,
-        depth,
-    })
+    read!(Op::Simple(op), next, depth)
 }
 
 // Readers of float constants. The profile has them
@@ -331,11 +313,7 @@ fn float_32(profile: Profile, bytes: &[u8], at: usize, depth: u32) -> Option<Rea
     let two = push_32(one, bytes[at + 2]);
     let three = push_32(two, bytes[at + 3]);
     let bits = push_32(three, bytes[at + 4]);
-    Some(Read {
-        op: Op::Simple(Simple::F32Const(bits)),
-        next: at + 5,
-        depth,
-    })
+    read!(Op::Simple(Simple::F32Const(bits)), at + 5, depth)
 }
 
 fn float_64(profile: Profile, bytes: &[u8], at: usize, depth: u32) -> Option<Read>
@@ -354,11 +332,7 @@ fn float_64(profile: Profile, bytes: &[u8], at: usize, depth: u32) -> Option<Rea
     let six = push_64(five, bytes[at + 6]);
     let seven = push_64(six, bytes[at + 7]);
     let bits = push_64(seven, bytes[at + 8]);
-    Some(Read {
-        op: Op::Simple(Simple::F64Const(bits)),
-        next: at + 9,
-        depth,
-    })
+    read!(Op::Simple(Simple::F64Const(bits)), at + 9, depth)
 }
 
 // Passes an op that ends within the next `room` bytes of the entry
@@ -538,8 +512,8 @@ fn take_uncommon<S: Sink>(
         0x30..=0x35 => give(sink, room, access(here, Load(narrow_load(byte)))),
         0x37 => give(sink, room, access(here, Store(StoreOp::I64Store))),
         0x3A..=0x3E => give(sink, room, access(here, Store(narrow_store(byte)))),
-        0x3F => give(sink, room, memory(bytes, at, depth, MemoryOp::Size)),
-        0x40 => give(sink, room, memory(bytes, at, depth, MemoryOp::Grow)),
+        0x3F => give(sink, room, memory(bytes, at, depth, MemoryOp::MemorySize)),
+        0x40 => give(sink, room, memory(bytes, at, depth, MemoryOp::MemoryGrow)),
         0x50 => give(sink, room, numeric(here, Test(I64))),
         0x51..=0x5A => give(sink, room, numeric(here, Compare(I64, comparison(byte)))),
         0x67..=0x69 => give(sink, room, numeric(here, Unary(I32, unary(byte)))),

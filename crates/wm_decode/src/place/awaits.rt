@@ -35,13 +35,15 @@ pub enum Awaits {
     Mutability,
     /// The first byte of an instruction. Core spec 5.4.
     Opcode,
-    /// The table index at the end of a `call_indirect`. Core spec 5.4.1.
+    /// A table index, which is 0: of a `call_indirect` (Core spec 5.4.1), a `table.init` or a `table.copy` (WebAssembly
+    /// 2.0, 5.4.5).
     TableByte,
     /// The number behind the byte FC of an instruction: its first byte. WebAssembly 2.0, 5.4.
     OpcodeNumber,
     /// A byte 00 of a memory instruction. Core spec 5.4.4, WebAssembly 2.0 5.4.6.
     MemoryByte,
-    /// The kind of an import or an export. Core spec 5.5.5 and 5.5.10.
+    /// The kind of an import or an export (Core spec 5.5.5, 5.5.10), or of the elements of a segment (WebAssembly 2.0,
+    /// 5.5.12).
     Kind,
     /// Any byte: of a float constant, of a data segment, or after the name of a custom section.
     Any,
@@ -113,10 +115,11 @@ fn in_op(at: InOp) -> Awaits
         InOp::First => Awaits::Opcode,
         InOp::Code => Awaits::OpcodeNumber,
         InOp::BlockType(_) => Awaits::BlockType,
-        InOp::CallTable { .. } => Awaits::TableByte,
-        InOp::FirstZero | InOp::Memory(_) => Awaits::MemoryByte,
+        InOp::Table { .. } => Awaits::TableByte,
+        InOp::FirstZero | InOp::Memory(_) | InOp::InitMemory(_) => Awaits::MemoryByte,
         InOp::Float32 { .. } | InOp::Float64 { .. } => Awaits::Any,
         InOp::Padding { .. } | InOp::Index { .. } | InOp::CallType(_) => Awaits::Number,
+        InOp::InitSegment(_) | InOp::InitElement(_) => Awaits::Number,
         InOp::Const32(_) | InOp::Const64(_) => Awaits::Number,
         InOp::Align { .. } | InOp::Offset { .. } => Awaits::Number,
     }
@@ -162,7 +165,9 @@ pub(crate) fn in_member(at: InMember) -> Awaits
         InMember::Param { .. } | InMember::ResultType { .. } => Awaits::ValueType,
         InMember::Name { .. } => Awaits::Name,
         InMember::Value(at) => in_value(at),
-        InMember::NameLength { .. } | InMember::Index { .. } => Awaits::Number,
+        InMember::NameLength { .. } | InMember::Index { .. } | InMember::SegmentStart { .. } =>
+            Awaits::Number,
+        InMember::ElementKind => Awaits::Kind,
         InMember::GlobalType(at) => in_global_type(at),
         InMember::Constant { of: _, at } => in_expression(at),
         InMember::Length { .. } | InMember::EntrySize(_) => Awaits::Number,

@@ -117,14 +117,16 @@ abbrev pub Fed : {H U : Type 0} → Result (Live H) Refusal → Result U Refusal
 Fed expected (Ok u) now = (expected ≡ now) × IsOk now
 Fed expected (Err r) now = (r.why ≢ why.Memory → expected ≡ Err r) × (now ≡ Err r)
 
--- the result at the end of the input between two sections, where so many functions have no code
-abbrev pub answer_between : {H : Type 0} → ℕ → H → ℕ → Result H Refusal
-answer_between zero h at = Ok h
-answer_between (suc n) h at = Err (record { at = at; why = why.CodeCount })
+-- the result at the end of the input between two sections, where so many functions have no code, and so many data
+-- segments were given
+abbrev pub answer_between : {H : Type 0} → ℕ → Option ℕ → H → ℕ → Result H Refusal
+answer_between (suc n) s h at = Err (record { at = at; why = why.CodeCount })
+answer_between zero (Some (suc n)) h at = Err (record { at = at; why = why.DataCount })
+answer_between zero s h at = Ok h
 
 -- the result at the end of the input
 abbrev pub answer_at_end_of : {H : Type 0} → Machine → H → ℕ → Result H Refusal
-answer_at_end_of (machine.Between last counts) h at = answer_between counts.functions h at
+answer_at_end_of (machine.Between last counts) h at = answer_between counts.functions counts.segments h at
 answer_at_end_of (machine.Refused w) h at = Err (record { at = at; why = w })
 answer_at_end_of m h at = Err (record { at = at; why = why.Truncated })
 

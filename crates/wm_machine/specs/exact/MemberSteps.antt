@@ -1,5 +1,6 @@
 -- Exact answers of the slow path inside a member of a section.
 use Rattle.std.specs.Prelude.{ℕ, zero, suc, ◌==◌, if◌then◌else◌, Option, Some, None, Result, Ok, Err}
+use Rattle.std.specs.Prelude.{Bool, true, false, nat_le}
 use Rattle.wm_syntax.specs.declared.numbers.Step.{Step}
 use Rattle.wm_syntax.specs.declared.numbers.Step.TheVariants as step
 use Rattle.wm_syntax.specs.inner.Numbers.{Partial}
@@ -7,6 +8,8 @@ use Rattle.wm_syntax.specs.exact.Reading.{fresh, unsigned_push}
 use Rattle.wm_syntax.specs.declared.why.Why.{Why}
 use Rattle.wm_syntax.specs.declared.why.Why.TheVariants as why
 use Rattle.wm_syntax.specs.declared.profile.Profile.{Profile}
+use Rattle.wm_syntax.specs.declared.profile.Feature.TheVariants.{BulkMemory}
+use Rattle.wm_syntax.specs.Profiles.{has}
 use Rattle.wm_syntax.specs.declared.types.ValType.{ValType}
 use Rattle.wm_syntax.specs.declared.instructions.Op.{Op}
 use Rattle.wm_machine.specs.declared.machine.NameKind.{NameKind}
@@ -28,6 +31,8 @@ use Rattle.wm_machine.specs.declared.machine.member.IndexOf.{IndexOf}
 use Rattle.wm_machine.specs.declared.machine.member.IndexOf.TheVariants as index
 use Rattle.wm_machine.specs.declared.machine.member.ConstantOf.{ConstantOf}
 use Rattle.wm_machine.specs.declared.machine.member.ConstantOf.TheVariants as constant
+use Rattle.wm_machine.specs.declared.machine.member.SegmentKind.{SegmentKind}
+use Rattle.wm_machine.specs.declared.machine.member.SegmentKind.TheVariants as segment
 use Rattle.wm_machine.specs.declared.machine.member.LengthOf.{LengthOf}
 use Rattle.wm_machine.specs.declared.machine.member.LengthOf.TheVariants as length_of
 use Rattle.wm_machine.specs.declared.machine.member.InEntry.{InEntry}
@@ -131,7 +136,7 @@ index_item index.Segment n = plain.Segment n
 abbrev pub after_index : IndexOf → InMember
 after_index index.Function = at.Over
 after_index index.Start = at.Over
-after_index index.Element = at.Constant constant.Element begin_expression
+after_index index.Element = at.Constant constant.IndexedElement begin_expression
 after_index (index.ElementFunction more) = functions_or_over more
 after_index index.Segment = at.Constant constant.Segment begin_expression
 
@@ -149,6 +154,7 @@ global_type_step p g c =
 abbrev pub constant_over : ConstantOf → InMember
 constant_over constant.Global = at.Over
 constant_over constant.Element = at.Length length_of.Functions fresh
+constant_over constant.IndexedElement = at.ElementKind
 constant_over constant.Segment = at.Length length_of.Bytes fresh
 
 abbrev pub after_constant : ConstantOf → InExpression → InMember
@@ -164,6 +170,43 @@ op_event f None = event.Nothing
 abbrev pub constant_step : Profile → ConstantOf → InExpression → ℕ → InMember × Event
 constant_step p of e c =
     (after_constant of (expression_step p e c).0, op_event plain.ConstOp (expression_step p e c).1)
+
+-- after the first number of an active segment: 0 as its flag or, without the feature, the index n
+abbrev pub active_begun : SegmentKind → ℕ → InMember × Event
+active_begun segment.Element n = with_item_given (at.Constant constant.Element begin_expression) (plain.Element n)
+active_begun segment.Data n = with_item_given (at.Constant constant.Segment begin_expression) (plain.Segment n)
+
+-- the flag of a passive segment
+abbrev pub passive_begun : SegmentKind → InMember × Event
+passive_begun segment.Element = with_item_given at.ElementKind plain.PassiveElement
+passive_begun segment.Data = with_item_given (at.Length length_of.Bytes fresh) plain.PassiveSegment
+
+-- the index behind a flag
+abbrev pub segment_index : SegmentKind → IndexOf
+segment_index segment.Element = index.Element
+segment_index segment.Data = index.Segment
+
+-- The first number of a segment. With the feature (`flagged`) it is at most 2: a byte that makes it greater is refused,
+-- also if more bytes would follow.
+abbrev pub segment_unfinished : (flagged : Bool) → SegmentKind → Partial → InMember
+segment_unfinished false of r = at.SegmentStart of r
+segment_unfinished true of r = if nat_le r.low 2 then at.SegmentStart of r else at.Failed why.BadNumber
+
+abbrev pub segment_begun : (flagged : Bool) → SegmentKind → ℕ → InMember × Event
+segment_begun false of n = active_begun of n
+segment_begun true of zero = active_begun of 0
+segment_begun true of (suc zero) = passive_begun of
+segment_begun true of (suc (suc zero)) = (at.Index (segment_index of) fresh, event.Nothing)
+segment_begun true of n = member_failed why.BadNumber
+
+abbrev pub segment_step : Profile → SegmentKind → Partial → ℕ → InMember × Event
+segment_step p of r c =
+    on_number (unsigned_push 32 r c) (segment_unfinished (has p BulkMemory) of) (segment_begun (has p BulkMemory) of)
+    at.Failed
+
+abbrev pub element_kind_step : ℕ → InMember × Event
+element_kind_step c = if c == 0x00 then (at.Length length_of.Functions fresh, event.Nothing)
+    else member_failed why.BadByte
 
 abbrev pub data_or_over : ℕ → InMember
 data_or_over zero = at.Over
@@ -235,6 +278,8 @@ member_step p (at.NameLength of r) c = name_length_step of r c
 member_step p (at.Name of more) c = name_step of more
 member_step p (at.Value v) c = value_step p v c
 member_step p (at.Index of r) c = index_step of r c
+member_step p (at.SegmentStart of r) c = segment_step p of r c
+member_step p at.ElementKind c = element_kind_step c
 member_step p (at.GlobalType g) c = global_type_step p g c
 member_step p (at.Constant of e) c = constant_step p of e c
 member_step p (at.Length of r) c = length_step of r c

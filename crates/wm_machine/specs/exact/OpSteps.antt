@@ -1,17 +1,17 @@
 -- Exact answers of the reader of one op.
-use Rattle.std.specs.Prelude.{ℕ, zero, suc, nat_lt, ◌+◌, ◌-◌, ◌*◌, ◌/◌, ◌^◌, ◌==◌, ℤ, if◌then◌else◌, Option, Some}
+use Rattle.std.specs.Prelude.{ℕ, zero, suc, nat_lt, ◌+◌, ◌-◌, ◌*◌, ◌/◌, ◌^◌, ◌==◌, ℤ, if◌then◌else◌, Some}
 use Rattle.std.specs.Prelude.{None as Nothing}
 use Rattle.wm_syntax.specs.declared.numbers.Step.{Step}
 use Rattle.wm_syntax.specs.declared.numbers.Step.TheVariants as step
 use Rattle.wm_syntax.specs.inner.Numbers.{Partial}
 use Rattle.wm_syntax.specs.exact.Reading.{fresh, unsigned_push, signed_push}
 use Rattle.wm_syntax.specs.exact.ByteTable.{class_under}
+use Rattle.wm_syntax.specs.exact.OpShapes.{access_op, block_op, index_op, memory_op}
 use Rattle.wm_syntax.specs.declared.profile.Profile.{Profile}
-use Rattle.wm_syntax.specs.declared.profile.Feature.TheVariants.{LongIndex}
+use Rattle.wm_syntax.specs.declared.profile.Feature.{Feature}
+use Rattle.wm_syntax.specs.declared.profile.Feature.TheVariants.{BulkMemory, LongIndex}
 use Rattle.wm_syntax.specs.Profiles.{has, has_prefix}
 use Rattle.wm_syntax.specs.declared.why.Why.TheVariants as why
-use Rattle.wm_syntax.specs.declared.types.ValType.{ValType}
-use Rattle.wm_syntax.specs.declared.instructions.MemArg.{MemArg}
 use Rattle.wm_syntax.specs.declared.instructions.Simple.TheVariants as s
 use Rattle.wm_syntax.specs.declared.instructions.Op.{Op}
 use Rattle.wm_syntax.specs.declared.instructions.Op.TheVariants as op
@@ -21,43 +21,28 @@ use Rattle.wm_syntax.specs.declared.instructions.op_class.OpClass.{OpClass}
 use Rattle.wm_syntax.specs.declared.instructions.op_class.OpClass.TheVariants.{Plain, With, Float, None}
 use Rattle.wm_machine.specs.declared.step.reading.Reading.{Reading}
 use Rattle.wm_machine.specs.declared.step.reading.Reading.TheVariants.{More, Done, Bad}
-use Rattle.wm_machine.specs.declared.step.ops.BlockOp.{BlockOp}
-use Rattle.wm_machine.specs.declared.step.ops.BlockOp.TheVariants as opening
-use Rattle.wm_machine.specs.declared.step.ops.Indexed.{Indexed}
-use Rattle.wm_machine.specs.declared.step.ops.Indexed.TheVariants as indexed
-use Rattle.wm_machine.specs.declared.step.ops.MemoryOp.{MemoryOp}
-use Rattle.wm_machine.specs.declared.step.ops.MemoryOp.TheVariants as memory
-use Rattle.wm_machine.specs.declared.step.ops.LoadOrStore.{LoadOrStore}
-use Rattle.wm_machine.specs.declared.step.ops.LoadOrStore.TheVariants as accesses
+use Rattle.wm_syntax.specs.declared.instructions.op_class.BlockOp.{BlockOp}
+use Rattle.wm_syntax.specs.declared.instructions.op_class.Indexed.{Indexed}
+use Rattle.wm_syntax.specs.declared.instructions.op_class.MemoryOp.TheVariants as memory
+use Rattle.wm_syntax.specs.declared.instructions.op_class.LoadOrStore.{LoadOrStore}
+use Rattle.wm_machine.specs.declared.step.ops.TableOp.{TableOp}
+use Rattle.wm_machine.specs.declared.step.ops.TableOp.TheVariants as table
 use Rattle.wm_machine.specs.declared.step.ops.InOp.{InOp}
 use Rattle.wm_machine.specs.declared.step.ops.InOp.TheVariants as at
 use Rattle.wm_machine.specs.exact.ValueSteps.{read_type, value_type_of}
 
 -- ops by their immediates
-abbrev pub block_op : BlockOp → Option ValType → Op
-block_op opening.Block t = op.Block t
-block_op opening.Loop t = op.Loop t
-block_op opening.If t = op.If t
-
-abbrev pub index_op : Indexed → ℕ → Op
-index_op indexed.Br n = op.Simple (s.Br n)
-index_op indexed.BrIf n = op.Simple (s.BrIf n)
-index_op indexed.BrTable n = op.BrTable n
-index_op indexed.Call n = op.Simple (s.Call n)
-index_op indexed.LocalGet n = op.Simple (s.LocalGet n)
-index_op indexed.LocalSet n = op.Simple (s.LocalSet n)
-index_op indexed.LocalTee n = op.Simple (s.LocalTee n)
-index_op indexed.GlobalGet n = op.Simple (s.GlobalGet n)
-index_op indexed.GlobalSet n = op.Simple (s.GlobalSet n)
-
 abbrev pub call_op : ℕ → Op
 call_op n = op.Simple (s.CallIndirect n)
 
-abbrev pub memory_op : MemoryOp → Op
-memory_op memory.Size = op.Simple s.MemorySize
-memory_op memory.Grow = op.Simple s.MemoryGrow
-memory_op memory.Copy = op.Simple s.MemoryCopy
-memory_op memory.Fill = op.Simple s.MemoryFill
+abbrev pub init_op : ℕ → Op
+init_op n = op.Simple (s.MemoryInit n)
+
+abbrev pub init_table_op : ℕ → Op
+init_table_op n = op.Simple (s.TableInit n)
+
+abbrev pub copy_table_op : Op
+copy_table_op = op.Simple s.TableCopy
 
 abbrev pub const_32_op : ℤ → Op
 const_32_op z = op.Simple (s.I32Const z)
@@ -70,10 +55,6 @@ float_32_op n = op.Simple (s.F32Const n)
 
 abbrev pub float_64_op : ℕ → Op
 float_64_op n = op.Simple (s.F64Const n)
-
-abbrev pub access_op : LoadOrStore → MemArg → Op
-access_op (accesses.Load o) at = op.Simple (s.Load o at)
-access_op (accesses.Store o) at = op.Simple (s.Store o at)
 
 -- the result that follows an answer of the reader of a number
 abbrev pub on_answer : {T A : Type 0} → Step T × Partial → (Partial → A) → (T → A) → A → A
@@ -89,34 +70,19 @@ abbrev pub fresh_access : LoadOrStore → InOp
 fresh_access a = at.Align a fresh
 
 abbrev pub immediates : Immediates → InOp
-immediates k.Block = at.BlockType opening.Block
-immediates k.Loop = at.BlockType opening.Loop
-immediates k.If = at.BlockType opening.If
-immediates k.Br = fresh_index indexed.Br
-immediates k.BrIf = fresh_index indexed.BrIf
-immediates k.BrTable = fresh_index indexed.BrTable
-immediates k.Call = fresh_index indexed.Call
+immediates (k.Block o) = at.BlockType o
+immediates (k.Index i) = fresh_index i
 immediates k.CallIndirect = at.CallType fresh
-immediates k.LocalGet = fresh_index indexed.LocalGet
-immediates k.LocalSet = fresh_index indexed.LocalSet
-immediates k.LocalTee = fresh_index indexed.LocalTee
-immediates k.GlobalGet = fresh_index indexed.GlobalGet
-immediates k.GlobalSet = fresh_index indexed.GlobalSet
-immediates k.MemorySize = at.Memory memory.Size
-immediates k.MemoryGrow = at.Memory memory.Grow
-immediates k.MemoryCopy = at.FirstZero
-immediates k.MemoryFill = at.Memory memory.Fill
+immediates k.MemoryInit = at.InitSegment fresh
+immediates (k.Memory memory.MemoryCopy) = at.FirstZero
+immediates (k.Memory m) = at.Memory m
+immediates k.TableInit = at.InitElement fresh
+immediates k.TableCopy = at.Table table.CopyTo 4
 immediates k.I32Const = at.Const32 fresh
 immediates k.I64Const = at.Const64 fresh
 immediates k.F32Const = at.Float32 3 0
 immediates k.F64Const = at.Float64 7 0
-immediates (k.Load o) = fresh_access (accesses.Load o)
-immediates (k.Store o) = fresh_access (accesses.Store o)
-
--- the class of a load or a store
-abbrev pub access_class : LoadOrStore → OpClass
-access_class (accesses.Load o) = With (k.Load o)
-access_class (accesses.Store o) = With (k.Store o)
+immediates (k.Access a) = fresh_access a
 
 -- the last byte of a code, by the class of the code
 abbrev pub class_step : OpClass → Reading InOp Op
@@ -163,8 +129,17 @@ op_index_step i r c =
 
 abbrev pub call_type_step : Partial → ℕ → Reading InOp Op
 call_type_step r c =
-    on_answer (unsigned_push 32 r c) (λ s. More (at.CallType s)) (λ n. More (at.CallTable n 4))
+    on_answer (unsigned_push 32 r c) (λ s. More (at.CallType s)) (λ n. More (at.Table (table.Call n) 4))
     (Bad why.BadNumber)
+
+abbrev pub init_element_step : Partial → ℕ → Reading InOp Op
+init_element_step r c =
+    on_answer (unsigned_push 32 r c) (λ s. More (at.InitElement s)) (λ n. More (at.Table (table.Init n) 4))
+    (Bad why.BadNumber)
+
+abbrev pub init_segment_step : Partial → ℕ → Reading InOp Op
+init_segment_step r c =
+    on_answer (unsigned_push 32 r c) (λ s. More (at.InitSegment s)) (λ n. More (at.InitMemory n)) (Bad why.BadNumber)
 
 -- the byte 00 that ends an op
 abbrev pub closing_step : Op → ℕ → Reading InOp Op
@@ -172,18 +147,29 @@ closing_step o c = if c == 0x00 then Done o else Bad why.BadByte
 
 -- the first of the two bytes 00 that end a memory.copy
 abbrev pub first_zero_step : ℕ → Reading InOp Op
-first_zero_step c = if c == 0x00 then More (at.Memory memory.Copy) else Bad why.BadByte
+first_zero_step c = if c == 0x00 then More (at.Memory memory.MemoryCopy) else Bad why.BadByte
 
--- The table index that ends a call_indirect, with at most `left` bytes after this one. With long indices bytes 80 may
--- come before the byte 00.
-abbrev pub long_step : ℕ → ℕ → ℕ → Reading InOp Op
-long_step n zero c = Bad why.BadNumber
-long_step n (suc left) c = if c == 0x80 then More (at.CallTable n left) else Bad why.BadNumber
+-- the feature with which bytes 80 may come before the byte 00 of a table index
+abbrev pub table_feature : TableOp → Feature
+table_feature (table.Call n) = LongIndex
+table_feature t = BulkMemory
 
-abbrev pub table_step : Profile → ℕ → ℕ → ℕ → Reading InOp Op
-table_step p n left c =
-    if c == 0x00 then Done (call_op n)
-    else (if has p LongIndex then long_step n left c else Bad why.BadByte)
+-- what follows a table index
+abbrev pub after_table : TableOp → Reading InOp Op
+after_table (table.Call n) = Done (call_op n)
+after_table (table.Init n) = Done (init_table_op n)
+after_table table.CopyTo = More (at.Table table.CopyFrom 4)
+after_table table.CopyFrom = Done copy_table_op
+
+-- A byte of a table index, with at most `left` bytes after this one.
+abbrev pub long_step : TableOp → ℕ → ℕ → Reading InOp Op
+long_step t zero c = Bad why.BadNumber
+long_step t (suc left) c = if c == 0x80 then More (at.Table t left) else Bad why.BadNumber
+
+abbrev pub table_step : Profile → TableOp → ℕ → ℕ → Reading InOp Op
+table_step p t left c =
+    if c == 0x00 then after_table t
+    else (if has p (table_feature t) then long_step t left c else Bad why.BadByte)
 
 abbrev pub const_32_step : Partial → ℕ → Reading InOp Op
 const_32_step r c =
@@ -230,7 +216,10 @@ op_push p (at.Padding n left) c = padding_step p n left c
 op_push p (at.BlockType o) c = block_step p o c
 op_push p (at.Index i r) c = op_index_step i r c
 op_push p (at.CallType r) c = call_type_step r c
-op_push p (at.CallTable n left) c = table_step p n left c
+op_push p (at.Table t left) c = table_step p t left c
+op_push p (at.InitElement r) c = init_element_step r c
+op_push p (at.InitSegment r) c = init_segment_step r c
+op_push p (at.InitMemory n) c = closing_step (init_op n) c
 op_push p at.FirstZero c = first_zero_step c
 op_push p (at.Memory m) c = closing_step (memory_op m) c
 op_push p (at.Const32 r) c = const_32_step r c

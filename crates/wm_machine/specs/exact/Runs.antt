@@ -16,7 +16,9 @@ use Rattle.wm_machine.specs.declared.machine.member.InMember.{InMember}
 use Rattle.wm_machine.specs.declared.machine.member.InMember.TheVariants as at
 use Rattle.wm_machine.specs.Items.{Item, new_type, param, result_count, one_result, import_module, import_name}
 use Rattle.wm_machine.specs.Items.{import_desc, function, table, memory, global, const_op, export_name, export}
-use Rattle.wm_machine.specs.Items.{start, element, element_function, body, locals, body_op, segment, data_byte}
+use Rattle.wm_machine.specs.Items.{start, element, element_function, data_count, body, locals, body_op, segment}
+use Rattle.wm_machine.specs.Items.{passive_element, passive_segment}
+use Rattle.wm_machine.specs.Items.{data_byte}
 use Rattle.wm_machine.specs.Items.{Zone, outside, name as in_name, entry, closing, Mark, Marks}
 use Rattle.wm_machine.specs.MarkedForms.{outside_mark}
 use Rattle.wm_machine.specs.exact.Steps.{step_of}
@@ -35,11 +37,14 @@ plain_item (plain.ConstOp o) = const_op o
 plain_item (plain.Export kind x) = export kind x
 plain_item (plain.Start x) = start x
 plain_item (plain.Element x) = element x
+plain_item plain.PassiveElement = passive_element
 plain_item (plain.ElementFunction x) = element_function x
+plain_item (plain.DataCount n) = data_count n
 plain_item plain.Body = body
 plain_item (plain.Locals n t) = locals n t
 plain_item (plain.BodyOp o) = body_op o
 plain_item (plain.Segment x) = segment x
+plain_item plain.PassiveSegment = passive_segment
 
 -- the item of a name of this kind; the name of a custom section has none
 abbrev pub name_item : NameKind → List ℕ → Option Item

@@ -1,6 +1,6 @@
 -- Exact answers of the slow path: the header, section headers, custom sections, and sizes and counts of sections.
 use Rattle.std.specs.Prelude.{ℕ, zero, suc, ◌+◌, ◌==◌, nat_lt, nat_le, if◌then◌else◌, slice_index, Option}
-use Rattle.std.specs.Prelude.{Some, None}
+use Rattle.std.specs.Prelude.{Some, None, Bool, true}
 use Rattle.wm_syntax.specs.declared.numbers.Step.{Step}
 use Rattle.wm_syntax.specs.declared.numbers.Step.TheVariants.{More, Done, Bad}
 use Rattle.wm_syntax.specs.inner.Numbers.{Partial}
@@ -12,6 +12,7 @@ use Rattle.wm_machine.specs.declared.machine.NameKind.TheVariants as kind
 use Rattle.wm_machine.specs.declared.machine.InCustom.{InCustom}
 use Rattle.wm_machine.specs.declared.machine.InCustom.TheVariants as custom
 use Rattle.wm_machine.specs.declared.machine.Counts.{Counts}
+use Rattle.wm_machine.specs.declared.machine.Plain.TheVariants as plain
 use Rattle.wm_machine.specs.declared.machine.Machine.{Machine}
 use Rattle.wm_machine.specs.declared.machine.Machine.TheVariants as machine
 use Rattle.wm_machine.specs.declared.machine.Event.{Event}
@@ -21,19 +22,27 @@ use Rattle.wm_machine.specs.declared.machine.member.SectionKind.TheVariants as s
 use Rattle.wm_machine.specs.declared.machine.member.InMember.{InMember}
 use Rattle.wm_machine.specs.declared.machine.member.InMember.TheVariants as at
 use Rattle.wm_machine.specs.Sections.{header}
-use Rattle.wm_machine.specs.exact.Members.{id_of, section_kind_of, member_at_start}
+use Rattle.wm_machine.specs.exact.Members.{rank_of, section_kind_of, member_at_start}
 use Rattle.wm_machine.specs.exact.MemberSteps.{on_number, member_step}
 
 -- the counts before the first section
 abbrev pub no_counts : Counts
-no_counts = record { functions = 0; members = 0 }
+no_counts = record { functions = 0; segments = None; members = 0 }
 
--- The counts in a section with n members. The function section declares n functions. After the count of the code
--- section, none of them is without code.
+-- The counts in a section after its number n. The function section declares n functions. After the count of the code
+-- section, none of them is without code. The data count section gives the number of data segments, and has no members.
+-- After the count of the data section, that number is no longer needed.
 abbrev pub counts_in : SectionKind → Counts → ℕ → Counts
-counts_in section_kind.Function counts n = record { functions = n; members = n }
-counts_in section_kind.Code counts n = record { functions = 0; members = n }
-counts_in of counts n = record { functions = counts.functions; members = n }
+counts_in section_kind.Function counts n = record { functions = n; segments = counts.segments; members = n }
+counts_in section_kind.DataCount counts n = record { functions = counts.functions; segments = Some n; members = 0 }
+counts_in section_kind.Code counts n = record { functions = 0; segments = counts.segments; members = n }
+counts_in section_kind.Segment counts n = record { functions = counts.functions; segments = None; members = n }
+counts_in of counts n = record { functions = counts.functions; segments = counts.segments; members = n }
+
+-- n is the number that was given, if one was
+abbrev pub is_given : Option ℕ → ℕ → Bool
+is_given None n = true
+is_given (Some m) n = n == m
 
 -- custom sections
 abbrev pub no_custom : Why → InCustom × Event
@@ -66,7 +75,7 @@ machine_in_custom last counts (suc n) q = machine.Custom last counts n q
 -- the state inside a member, with `bytes` bytes of the section and `left` further members to come
 abbrev pub machine_in_member : SectionKind → Counts → ℕ → ℕ → InMember → Machine
 machine_in_member of counts bytes left (at.Failed w) = machine.Refused w
-machine_in_member of counts zero zero at.Over = machine.Between (id_of of) counts
+machine_in_member of counts zero zero at.Over = machine.Between (rank_of of) counts
 machine_in_member of counts (suc n) zero at.Over = machine.Refused why.SectionEnd
 machine_in_member of counts zero (suc l) at.Over = machine.Refused why.SectionEnd
 machine_in_member of counts (suc n) (suc l) at.Over = machine.Section of counts n l (member_at_start of)
@@ -81,21 +90,33 @@ abbrev pub machine_after_count : SectionKind → Counts → ℕ → ℕ → Mach
 machine_after_count of counts bytes zero = machine_in_member of counts bytes zero at.Over
 machine_after_count of counts bytes (suc n) = machine_in_member of counts bytes n (member_at_start of)
 
--- the state after the member count; keeps that of the function section, and compares that of the code section with it
+-- the state after the member count; keeps that of the function section and the number of the data count section, and
+-- compares those of the code section and the data section with them
 abbrev pub machine_after_paired_count : SectionKind → Counts → ℕ → ℕ → Machine
 machine_after_paired_count section_kind.Code counts bytes n =
     if n == counts.functions
     then machine_after_count section_kind.Code (counts_in section_kind.Code counts n) bytes n
     else machine.Refused why.CodeCount
+machine_after_paired_count section_kind.Segment counts bytes n =
+    if is_given counts.segments n
+    then machine_after_count section_kind.Segment (counts_in section_kind.Segment counts n) bytes n
+    else machine.Refused why.DataCount
+machine_after_paired_count section_kind.DataCount counts bytes n =
+    machine_after_count section_kind.DataCount (counts_in section_kind.DataCount counts n) bytes zero
 machine_after_paired_count of counts bytes n = machine_after_count of (counts_in of counts n) bytes n
 
 abbrev pub count_more : SectionKind → Counts → ℕ → Partial → Machine × Event
 count_more of counts zero r = machine_refused why.SectionEnd
 count_more of counts (suc n) r = (machine.Count of counts n r, event.Nothing)
 
+-- the effect of the last byte of the number: that of the data count section is an item
+abbrev pub count_event : SectionKind → ℕ → Event
+count_event section_kind.DataCount n = event.Complete (plain.DataCount n)
+count_event of n = event.Nothing
+
 abbrev pub after_count : SectionKind → Counts → ℕ → Step ℕ × Partial → Machine × Event
 after_count of counts more (More, r) = count_more of counts more r
-after_count of counts more (Done n, r) = (machine_after_paired_count of counts more n, event.Nothing)
+after_count of counts more (Done n, r) = (machine_after_paired_count of counts more n, count_event of n)
 after_count of counts more (Bad, r) = machine_refused why.BadNumber
 
 abbrev pub count_step : SectionKind → Counts → ℕ → Partial → ℕ → Machine × Event
@@ -110,14 +131,14 @@ abbrev pub begun_section : SectionKind → Counts → Machine × Event
 begun_section section_kind.Segment counts = begun_last counts.functions counts
 begun_section of counts = (machine.Size of counts fresh, event.Nothing)
 
-abbrev pub machine_if_rising : ℕ → Counts → ℕ → Option SectionKind → Machine × Event
-machine_if_rising last counts id None = machine_refused why.SectionId
-machine_if_rising last counts id (Some of) = if nat_le id last then machine_refused why.SectionOrder
+abbrev pub machine_if_rising : ℕ → Counts → Option SectionKind → Machine × Event
+machine_if_rising last counts None = machine_refused why.SectionId
+machine_if_rising last counts (Some of) = if nat_le (rank_of of) last then machine_refused why.SectionOrder
     else begun_section of counts
 
-abbrev pub section_start : ℕ → Counts → ℕ → Machine × Event
-section_start last counts zero = (machine.CustomSize last counts fresh, event.Nothing)
-section_start last counts (suc m) = machine_if_rising last counts (suc m) (section_kind_of (suc m))
+abbrev pub section_start : Profile → ℕ → Counts → ℕ → Machine × Event
+section_start p last counts zero = (machine.CustomSize last counts fresh, event.Nothing)
+section_start p last counts (suc m) = machine_if_rising last counts (section_kind_of p (suc m))
 
 -- the state before the contents of a section, with `more` bytes of it after the next
 abbrev pub machine_in_contents : SectionKind → Counts → ℕ → Machine
@@ -153,7 +174,7 @@ header_step n c =
 
 abbrev pub step_of : Profile → Machine → ℕ → Machine × Event
 step_of p (machine.Header n) c = header_step n c
-step_of p (machine.Between last counts) c = section_start last counts c
+step_of p (machine.Between last counts) c = section_start p last counts c
 step_of p (machine.CustomSize last counts r) c = custom_size_step last counts r c
 step_of p (machine.Custom last counts more q) c =
     (machine_in_custom last counts more (custom_step q c).0, (custom_step q c).1)

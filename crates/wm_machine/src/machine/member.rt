@@ -1,12 +1,13 @@
 //! The kinds of sections, and the parser state inside a member of a section.
 
 ghost use Rattle.std.specs.Prelude.{◌≡◌};
-ghost use Rattle.wm_machine.specs.exact.Members.{id_of, section_kind_of};
+ghost use Rattle.wm_machine.specs.exact.Members.{id_of, rank_of, section_kind_of};
 
 use crate::machine::NameKind;
 use crate::step::expressions::InExpression;
 use crate::step::values::{InGlobalType, InRun, InValue};
 use wm_syntax::numbers::Num32;
+use wm_syntax::profile::{Feature, Profile};
 use wm_syntax::why::Why;
 
 /// The kind of a section that is not custom. The start section counts as one member. Core spec 5.5.2.
@@ -21,14 +22,16 @@ pub enum SectionKind {
     Export,
     Start,
     Element,
+    /// WebAssembly 2.0, 5.5.15. It has no members.
+    DataCount,
     Code,
     Segment,
 }
 
 impl SectionKind {
-    /// Returns the id of the section.
-    pub fn id(self) -> u8
-        ensures { result ≡ id_of self }
+    /// Returns the rank of the section, from 1 to 12. Sections other than custom ones stand in this order.
+    pub fn rank(self) -> u8
+        ensures { result ≡ rank_of self }
     {
         match self {
             SectionKind::Type => 1,
@@ -40,14 +43,27 @@ impl SectionKind {
             SectionKind::Export => 7,
             SectionKind::Start => 8,
             SectionKind::Element => 9,
-            SectionKind::Code => 10,
-            SectionKind::Segment => 11,
+            SectionKind::DataCount => 10,
+            SectionKind::Code => 11,
+            SectionKind::Segment => 12,
         }
     }
 
-    /// Returns the kind of section with this id, or `None` if the id is 0 or above 11.
-    pub fn of(id: u8) -> Option<SectionKind>
-        ensures { result ≡ section_kind_of id }
+    /// Returns the id of the section.
+    pub fn id(self) -> u8
+        ensures { result ≡ id_of self }
+    {
+        match self {
+            SectionKind::DataCount => 12,
+            SectionKind::Code => 10,
+            SectionKind::Segment => 11,
+            _ => self.rank(),
+        }
+    }
+
+    /// Returns the kind of section with this id, or `None` if the profile has none.
+    pub fn of(profile: Profile, id: u8) -> Option<SectionKind>
+        ensures { result ≡ section_kind_of profile id }
     {
         match id {
             1 => Some(SectionKind::Type),
@@ -61,6 +77,7 @@ impl SectionKind {
             9 => Some(SectionKind::Element),
             10 => Some(SectionKind::Code),
             11 => Some(SectionKind::Segment),
+            12 if profile.has(Feature::BulkMemory) => Some(SectionKind::DataCount),
             _ => None,
         }
     }
@@ -72,11 +89,11 @@ pub enum IndexOf {
     /// The type index of a function.
     Function,
     Start,
-    /// The table index of an element segment.
+    /// The table index of an element segment, behind a flag.
     Element,
     /// A function index of an element segment; `more` indices follow it.
     ElementFunction { more: u32 },
-    /// The memory index of a data segment.
+    /// The memory index of a data segment, behind a flag.
     Segment,
 }
 
@@ -85,10 +102,19 @@ pub enum IndexOf {
 pub enum ConstantOf {
     Global,
     Element,
+    /// An element segment whose table index was behind a flag. Its element kind follows.
+    IndexedElement,
     Segment,
 }
 
-/// The list whose length is being read, after the offset expression of a segment.
+/// Whether a segment is an element segment or a data segment.
+#[derive(Clone, Copy)]
+pub enum SegmentKind {
+    Element,
+    Data,
+}
+
+/// The list whose length is being read, the last part of a segment.
 #[derive(Clone, Copy)]
 pub enum LengthOf {
     Functions,
@@ -121,6 +147,11 @@ pub enum InMember {
     Name { of: NameKind, more: u32 },
     Value(InValue),
     Index { of: IndexOf, number: Num32 },
+    /// Inside the number at the front of a segment: the index of its table or memory or, with `Feature::BulkMemory`, a
+    /// flag.
+    SegmentStart { of: SegmentKind, number: Num32 },
+    /// Before the byte 00, the element kind of a segment: functions. WebAssembly 2.0, 5.5.12.
+    ElementKind,
     GlobalType(InGlobalType),
     Constant { of: ConstantOf, at: InExpression },
     Length { of: LengthOf, number: Num32 },

@@ -6,9 +6,10 @@ ghost use Rattle.wm_machine.specs.exact.MemberSteps.{member_failed, after_name, 
 ghost use Rattle.wm_machine.specs.exact.MemberSteps.{value_step, functions_or_over, index_item, after_index};
 ghost use Rattle.wm_machine.specs.exact.MemberSteps.{index_step, global_type_step, constant_over};
 ghost use Rattle.wm_machine.specs.exact.MemberSteps.{after_constant, constant_step, length_step, data_or_over};
-ghost use Rattle.wm_machine.specs.exact.MemberSteps.{member_step};
+ghost use Rattle.wm_machine.specs.exact.MemberSteps.{active_begun, element_kind_step, member_step, passive_begun};
+ghost use Rattle.wm_machine.specs.exact.MemberSteps.{segment_begun, segment_index, segment_step, segment_unfinished};
 
-use crate::machine::member::{ConstantOf, InMember, IndexOf, LengthOf, SectionKind};
+use crate::machine::member::{ConstantOf, InMember, IndexOf, LengthOf, SectionKind, SegmentKind};
 use crate::machine::{Event, NameKind, Plain};
 use crate::step::code_entries::{entry, entry_size};
 use crate::step::expressions::{InExpression, expression_byte};
@@ -19,10 +20,10 @@ use crate::step::values::{
     value_byte,
 };
 use wm_syntax::numbers::{Num32, Step};
-use wm_syntax::profile::Profile;
+use wm_syntax::profile::{Feature, Profile};
 use wm_syntax::why::Why;
 
-/// Returns the state before the first byte of a member.
+/// Returns the state before the first byte of a member. The data count section has none, and the state does not matter.
 pub fn begin(of: SectionKind) -> InMember
     ensures { result ≡ member_at_start of }
 {
@@ -44,19 +45,19 @@ pub fn begin(of: SectionKind) -> InMember
             let of = NameKind::Export;
             InMember::NameLength { of, number }
         }
-        SectionKind::Start => InMember::Index {
+        SectionKind::Start | SectionKind::DataCount => InMember::Index {
             of: IndexOf::Start,
             number,
         },
-        SectionKind::Element => InMember::Index {
-            of: IndexOf::Element,
-            number,
-        },
+        SectionKind::Element => {
+            let of = SegmentKind::Element;
+            InMember::SegmentStart { of, number }
+        }
         SectionKind::Code => InMember::EntrySize(number),
-        SectionKind::Segment => InMember::Index {
-            of: IndexOf::Segment,
-            number,
-        },
+        SectionKind::Segment => {
+            let of = SegmentKind::Data;
+            InMember::SegmentStart { of, number }
+        }
     }
 }
 
@@ -148,7 +149,7 @@ fn after_index(of: IndexOf) -> InMember
     match of {
         IndexOf::Function | IndexOf::Start => InMember::Over,
         IndexOf::Element => InMember::Constant {
-            of: ConstantOf::Element,
+            of: ConstantOf::IndexedElement,
             at,
         },
         IndexOf::ElementFunction { more } => functions_or_over(more),
@@ -166,6 +167,110 @@ fn index(of: IndexOf, mut number: Num32, byte: u8) -> (InMember, Event)
         Step::More => (InMember::Index { of, number }, Event::Nothing),
         Step::Done(n) => (after_index(of), Event::Complete(index_item(of, n))),
         Step::Bad => failed(Why::BadNumber),
+    }
+}
+
+// the front of a segment
+
+/// The greatest flag of a segment (WebAssembly 2.0, 5.5.12 and 5.5.14, without expressions as elements).
+const MOST_FLAG: u64 = 2;
+
+fn segment_index(of: SegmentKind) -> IndexOf
+    ensures { result ≡ segment_index of }
+{
+    match of {
+        SegmentKind::Element => IndexOf::Element,
+        SegmentKind::Data => IndexOf::Segment,
+    }
+}
+
+fn segment_unfinished(flagged: bool, of: SegmentKind, number: Num32) -> InMember
+    ensures { result ≡ segment_unfinished flagged of number }
+{
+    if flagged && number.least() > MOST_FLAG {
+        InMember::Failed(Why::BadNumber)
+    } else {
+        InMember::SegmentStart { of, number }
+    }
+}
+
+/// Returns the state after the first number of an active segment without a further number, and the effect of its last
+/// byte. `index` is that of its table or memory.
+fn active_begun(of: SegmentKind, index: u32) -> (InMember, Event)
+    ensures { result ≡ active_begun of index }
+{
+    let at = InExpression::new();
+    let (of, item) = match of {
+        SegmentKind::Element => (ConstantOf::Element, Plain::Element(index)),
+        SegmentKind::Data => (ConstantOf::Segment, Plain::Segment(index)),
+    };
+    (InMember::Constant { of, at }, Event::Complete(item))
+}
+
+/// Returns the state after the flag of a passive segment, and the effect of its last byte.
+fn passive_begun(of: SegmentKind) -> (InMember, Event)
+    ensures { result ≡ passive_begun of }
+{
+    match of {
+        SegmentKind::Element => (
+            InMember::ElementKind,
+            Event::Complete(Plain::PassiveElement),
+        ),
+        SegmentKind::Data => {
+            let of = LengthOf::Bytes;
+            let number = Num32::new();
+            (
+                InMember::Length { of, number },
+                Event::Complete(Plain::PassiveSegment),
+            )
+        }
+    }
+}
+
+/// Returns the state after the number at the front of a segment, and the effect of its last byte.
+fn segment_begun(flagged: bool, of: SegmentKind, number: u32) -> (InMember, Event)
+    ensures { result ≡ segment_begun flagged of number }
+{
+    if !flagged || number == 0 {
+        active_begun(of, number)
+    } else if number == 1 {
+        passive_begun(of)
+    } else if number == 2 {
+        let of = segment_index(of);
+        let number = Num32::new();
+        (InMember::Index { of, number }, Event::Nothing)
+    } else {
+        failed(Why::BadNumber)
+    }
+}
+
+/// Reads the number at the front of a segment. With the feature it is a flag, and the first byte that no flag has there
+/// is refused.
+fn segment_start(
+    profile: Profile,
+    of: SegmentKind,
+    mut number: Num32,
+    byte: u8,
+) -> (InMember, Event)
+    ensures { result ≡ segment_step profile of number byte }
+{
+    let flagged = profile.has(Feature::BulkMemory);
+    match number.push(byte) {
+        Step::More => (segment_unfinished(flagged, of, number), Event::Nothing),
+        Step::Done(n) => segment_begun(flagged, of, n),
+        Step::Bad => failed(Why::BadNumber),
+    }
+}
+
+fn element_kind(byte: u8) -> (InMember, Event)
+    ensures { result ≡ element_kind_step byte }
+{
+    if byte == 0x00 {
+        let of = LengthOf::Functions;
+        let number = Num32::new();
+        (InMember::Length { of, number }, Event::Nothing)
+    } else {
+        failed(Why::BadByte)
     }
 }
 
@@ -198,6 +303,7 @@ fn constant_over(of: ConstantOf) -> InMember
             of: LengthOf::Functions,
             number,
         },
+        ConstantOf::IndexedElement => InMember::ElementKind,
         ConstantOf::Segment => InMember::Length {
             of: LengthOf::Bytes,
             number,
@@ -264,6 +370,8 @@ pub(crate) fn member_byte(profile: Profile, at: InMember, byte: u8) -> (InMember
         InMember::Name { of, more } => name_byte(of, more),
         InMember::Value(at) => value(profile, at, byte),
         InMember::Index { of, number } => index(of, number, byte),
+        InMember::SegmentStart { of, number } => segment_start(profile, of, number, byte),
+        InMember::ElementKind => element_kind(byte),
         InMember::GlobalType(at) => global_type(profile, at, byte),
         InMember::Constant { of, at } => constant(profile, of, at, byte),
         InMember::Length { of, number } => length(of, number, byte),

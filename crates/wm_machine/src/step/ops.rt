@@ -1,121 +1,59 @@
 //! The reader of one op, one byte at a time. The labels of a `br_table` are read in `expressions.rt`. Core spec 5.4.
 
 ghost use Rattle.std.specs.Prelude.{◌≡◌};
-ghost use Rattle.wm_syntax.specs.exact.ByteTable.{class_under};
-ghost use Rattle.wm_machine.specs.exact.OpSteps.{access_op, align_step, begin_step, block_op, block_step};
-ghost use Rattle.wm_machine.specs.exact.OpSteps.{call_type_step, class_step, code_step, first_zero_step};
-ghost use Rattle.wm_machine.specs.exact.OpSteps.{closing_step, const_32_step, const_64_step, padding_step};
-ghost use Rattle.wm_machine.specs.exact.OpSteps.{prefix_step};
-ghost use Rattle.wm_machine.specs.exact.OpSteps.{float_32_step, float_64_step, pushed_32, pushed_64, table_step};
-ghost use Rattle.wm_machine.specs.exact.OpSteps.{fresh_access, fresh_index, immediates, index_op};
-ghost use Rattle.wm_machine.specs.exact.OpSteps.{op_index_step, memory_op, offset_step, op_push};
+ghost use Rattle.wm_machine.specs.exact.OpSteps.{after_table, align_step, begin_step, block_step, call_type_step};
+ghost use Rattle.wm_machine.specs.exact.OpSteps.{class_step, closing_step, code_step, const_32_step, const_64_step};
+ghost use Rattle.wm_machine.specs.exact.OpSteps.{first_zero_step, float_32_step, float_64_step, immediates};
+ghost use Rattle.wm_machine.specs.exact.OpSteps.{init_element_step, init_segment_step, offset_step, op_index_step};
+ghost use Rattle.wm_machine.specs.exact.OpSteps.{op_push, padding_step, pushed_32, pushed_64, table_feature, table_step};
 
-use crate::step::reading::Reading;
+use crate::step::reading::{Reading, number_reading};
 use crate::step::values::value_type;
-use wm_syntax::instructions::op_class::{Immediates, OpClass};
+use wm_syntax::instructions::op_class::{
+    BlockOp, Immediates, Indexed, LoadOrStore, MemoryOp, OpClass,
+};
 use wm_syntax::instructions::opcodes::{op_behind, op_of};
-use wm_syntax::instructions::{LoadOp, MemArg, Op, Simple, StoreOp};
+use wm_syntax::instructions::{MemArg, Op, Simple};
 use wm_syntax::numbers::{Int32, Int64, Num32, Step};
 use wm_syntax::profile::{Feature, Profile};
-use wm_syntax::types::ValType;
 use wm_syntax::why::Why;
 
-/// An op that opens a block.
+/// The op whose table index, which must be 0, is being read.
 #[derive(Clone, Copy)]
-pub enum BlockOp {
-    Block,
-    Loop,
-    If,
+pub enum TableOp {
+    /// A `call_indirect` with this type index.
+    Call(u32),
+    /// A `table.init` with this element segment.
+    Init(u32),
+    /// A `table.copy`, at the first of its two table indices.
+    CopyTo,
+    /// A `table.copy`, at the second.
+    CopyFrom,
 }
 
-impl BlockOp {
-    /// Returns the op with this block type.
-    #[inline(always)]
-    pub fn op(self, ty: Option<ValType>) -> Op
-        ensures { result ≡ block_op self ty }
+impl TableOp {
+    // Returns the feature with which the table index may have more than one byte
+    fn feature(self) -> Feature
+        ensures { result ≡ table_feature self }
     {
         match self {
-            BlockOp::Block => Op::Block(ty),
-            BlockOp::Loop => Op::Loop(ty),
-            BlockOp::If => Op::If(ty),
+            TableOp::Call(_) => Feature::LongIndex,
+            TableOp::Init(_) | TableOp::CopyTo | TableOp::CopyFrom => Feature::BulkMemory,
         }
     }
-}
 
-/// An op whose only immediate is a `u32`: an index, or for `br_table` the number of labels before the default one.
-#[derive(Clone, Copy)]
-pub enum Indexed {
-    Br,
-    BrIf,
-    BrTable,
-    Call,
-    LocalGet,
-    LocalSet,
-    LocalTee,
-    GlobalGet,
-    GlobalSet,
-}
-
-impl Indexed {
-    /// Returns the op with this immediate.
-    #[inline(always)]
-    pub fn op(self, index: u32) -> Op
-        ensures { result ≡ index_op self index }
+    // Returns what follows the table index
+    fn after(self) -> Reading<InOp, Op>
+        ensures { result ≡ after_table self }
     {
         match self {
-            Indexed::Br => Op::Simple(Simple::Br(index)),
-            Indexed::BrIf => Op::Simple(Simple::BrIf(index)),
-            Indexed::BrTable => Op::BrTable(index),
-            Indexed::Call => Op::Simple(Simple::Call(index)),
-            Indexed::LocalGet => Op::Simple(Simple::LocalGet(index)),
-            Indexed::LocalSet => Op::Simple(Simple::LocalSet(index)),
-            Indexed::LocalTee => Op::Simple(Simple::LocalTee(index)),
-            Indexed::GlobalGet => Op::Simple(Simple::GlobalGet(index)),
-            Indexed::GlobalSet => Op::Simple(Simple::GlobalSet(index)),
-        }
-    }
-}
-
-/// A memory instruction whose immediates are bytes 00.
-#[derive(Clone, Copy)]
-pub enum MemoryOp {
-    Size,
-    Grow,
-    Copy,
-    Fill,
-}
-
-impl MemoryOp {
-    /// Returns the op.
-    #[inline(always)]
-    pub fn op(self) -> Op
-        ensures { result ≡ memory_op self }
-    {
-        match self {
-            MemoryOp::Size => Op::Simple(Simple::MemorySize),
-            MemoryOp::Grow => Op::Simple(Simple::MemoryGrow),
-            MemoryOp::Copy => Op::Simple(Simple::MemoryCopy),
-            MemoryOp::Fill => Op::Simple(Simple::MemoryFill),
-        }
-    }
-}
-
-/// A load or a store.
-#[derive(Clone, Copy)]
-pub enum LoadOrStore {
-    Load(LoadOp),
-    Store(StoreOp),
-}
-
-impl LoadOrStore {
-    /// Returns the op with this alignment and offset.
-    #[inline(always)]
-    pub fn op(self, at: MemArg) -> Op
-        ensures { result ≡ access_op self at }
-    {
-        match self {
-            LoadOrStore::Load(op) => Op::Simple(Simple::Load(op, at)),
-            LoadOrStore::Store(op) => Op::Simple(Simple::Store(op, at)),
+            TableOp::Call(ty) => Reading::Done(Op::Simple(Simple::CallIndirect(ty))),
+            TableOp::Init(segment) => Reading::Done(Op::Simple(Simple::TableInit(segment))),
+            TableOp::CopyTo => Reading::More(InOp::Table {
+                op: TableOp::CopyFrom,
+                left: 4,
+            }),
+            TableOp::CopyFrom => Reading::Done(Op::Simple(Simple::TableCopy)),
         }
     }
 }
@@ -139,12 +77,18 @@ pub enum InOp {
     },
     /// Inside the type index of a `call_indirect`.
     CallType(Num32),
-    /// Before the last byte of a `call_indirect`, which is 00. Under `Feature::LongIndex` up to `left` bytes 80 may come
-    /// before it: they encode the table index 0 in more bytes.
-    CallTable {
-        ty: u32,
+    /// Inside a table index, which is 0: up to `left` bytes 80, and then a byte 00. A `call_indirect` may have bytes 80
+    /// only under `Feature::LongIndex`.
+    Table {
+        op: TableOp,
         left: u8,
     },
+    /// Inside the index of the element segment of a `table.init`.
+    InitElement(Num32),
+    /// Inside the index of the data segment of a `memory.init`.
+    InitSegment(Num32),
+    /// Before the byte 00 that ends the `memory.init` with this index.
+    InitMemory(u32),
     /// Before the first of the two bytes 00 that end a `memory.copy`.
     FirstZero,
     /// Before the byte 00 that ends a memory instruction.
@@ -171,65 +115,42 @@ pub enum InOp {
     },
 }
 
-fn before_index(op: Indexed) -> InOp
-    ensures { result ≡ fresh_index op }
-{
-    let number = Num32::new();
-    InOp::Index { op, number }
-}
-
-fn before_access(op: LoadOrStore) -> InOp
-    ensures { result ≡ fresh_access op }
-{
-    let number = Num32::new();
-    InOp::Align { op, number }
-}
-
 // Returns the state before the immediates of an op
-fn immediates(kind: Immediates) -> InOp
+fn before(kind: Immediates) -> InOp
     ensures { result ≡ immediates kind }
 {
     match kind {
-        Immediates::Block => InOp::BlockType(BlockOp::Block),
-        Immediates::Loop => InOp::BlockType(BlockOp::Loop),
-        Immediates::If => InOp::BlockType(BlockOp::If),
-        Immediates::Br => before_index(Indexed::Br),
-        Immediates::BrIf => before_index(Indexed::BrIf),
-        Immediates::BrTable => before_index(Indexed::BrTable),
-        Immediates::Call => before_index(Indexed::Call),
+        Immediates::Block(op) => InOp::BlockType(op),
+        Immediates::Index(op) => InOp::Index {
+            op,
+            number: Num32::new(),
+        },
         Immediates::CallIndirect => InOp::CallType(Num32::new()),
-        Immediates::LocalGet => before_index(Indexed::LocalGet),
-        Immediates::LocalSet => before_index(Indexed::LocalSet),
-        Immediates::LocalTee => before_index(Indexed::LocalTee),
-        Immediates::GlobalGet => before_index(Indexed::GlobalGet),
-        Immediates::GlobalSet => before_index(Indexed::GlobalSet),
-        Immediates::MemorySize => InOp::Memory(MemoryOp::Size),
-        Immediates::MemoryGrow => InOp::Memory(MemoryOp::Grow),
-        Immediates::MemoryCopy => InOp::FirstZero,
-        Immediates::MemoryFill => InOp::Memory(MemoryOp::Fill),
+        Immediates::MemoryInit => InOp::InitSegment(Num32::new()),
+        Immediates::Memory(MemoryOp::MemoryCopy) => InOp::FirstZero,
+        Immediates::Memory(op) => InOp::Memory(op),
+        Immediates::TableInit => InOp::InitElement(Num32::new()),
+        Immediates::TableCopy => InOp::Table {
+            op: TableOp::CopyTo,
+            left: 4,
+        },
         Immediates::I32Const => InOp::Const32(Int32::new()),
         Immediates::I64Const => InOp::Const64(Int64::new()),
         Immediates::F32Const => InOp::Float32 { left: 3, bits: 0 },
         Immediates::F64Const => InOp::Float64 { left: 7, bits: 0 },
-        Immediates::Load(op) => before_access(LoadOrStore::Load(op)),
-        Immediates::Store(op) => before_access(LoadOrStore::Store(op)),
+        Immediates::Access(op) => InOp::Align {
+            op,
+            number: Num32::new(),
+        },
     }
 }
 
 fn first(profile: Profile, byte: u8) -> Reading<InOp, Op>
     ensures { result ≡ begin_step profile byte }
 {
-    if byte == 0xFC {
-        return prefix(profile);
-    }
-    behind_code(op_of(profile, byte))
-}
-
-// Takes the byte FC
-fn prefix(profile: Profile) -> Reading<InOp, Op>
-    ensures { result ≡ prefix_step profile }
-{
-    if profile.has_prefix() {
+    if byte != 0xFC {
+        behind_code(op_of(profile, byte))
+    } else if profile.has_prefix() {
         Reading::More(InOp::Code)
     } else {
         Reading::Bad(Why::BadOpcode)
@@ -242,7 +163,7 @@ fn behind_code(class: OpClass) -> Reading<InOp, Op>
 {
     match class {
         OpClass::Plain(op) => Reading::Done(op),
-        OpClass::With(kind) => Reading::More(immediates(kind)),
+        OpClass::With(kind) => Reading::More(before(kind)),
         OpClass::Float => Reading::Bad(Why::Float),
         OpClass::None => Reading::Bad(Why::BadOpcode),
     }
@@ -288,24 +209,82 @@ fn block_type(profile: Profile, op: BlockOp, byte: u8) -> Reading<InOp, Op>
     }
 }
 
+// Each reader of a number has its own function: in `push` its state would be in memory that each byte clears.
+
 fn index(op: Indexed, mut number: Num32, byte: u8) -> Reading<InOp, Op>
     ensures { result ≡ op_index_step op number byte }
 {
-    match number.push(byte) {
-        Step::More => Reading::More(InOp::Index { op, number }),
-        Step::Done(n) => Reading::Done(op.op(n)),
-        Step::Bad => Reading::Bad(Why::BadNumber),
-    }
+    number_reading!(number.push(byte), InOp::Index { op, number }, n => Reading::Done(op.op(n)))
 }
 
 fn call_type(mut number: Num32, byte: u8) -> Reading<InOp, Op>
     ensures { result ≡ call_type_step number byte }
 {
-    match number.push(byte) {
-        Step::More => Reading::More(InOp::CallType(number)),
-        Step::Done(ty) => Reading::More(InOp::CallTable { ty, left: 4 }),
-        Step::Bad => Reading::Bad(Why::BadNumber),
-    }
+    number_reading!(
+        number.push(byte),
+        InOp::CallType(number),
+        ty => Reading::More(InOp::Table { op: TableOp::Call(ty), left: 4 })
+    )
+}
+
+fn init_element(mut number: Num32, byte: u8) -> Reading<InOp, Op>
+    ensures { result ≡ init_element_step number byte }
+{
+    number_reading!(
+        number.push(byte),
+        InOp::InitElement(number),
+        segment => Reading::More(InOp::Table { op: TableOp::Init(segment), left: 4 })
+    )
+}
+
+fn init_segment(mut number: Num32, byte: u8) -> Reading<InOp, Op>
+    ensures { result ≡ init_segment_step number byte }
+{
+    number_reading!(
+        number.push(byte),
+        InOp::InitSegment(number),
+        segment => Reading::More(InOp::InitMemory(segment))
+    )
+}
+
+fn align(op: LoadOrStore, mut number: Num32, byte: u8) -> Reading<InOp, Op>
+    ensures { result ≡ align_step op number byte }
+{
+    number_reading!(
+        number.push(byte),
+        InOp::Align { op, number },
+        align => Reading::More(InOp::Offset { op, align, number: Num32::new() })
+    )
+}
+
+fn offset(op: LoadOrStore, align: u32, mut number: Num32, byte: u8) -> Reading<InOp, Op>
+    ensures { result ≡ offset_step op align number byte }
+{
+    number_reading!(
+        number.push(byte),
+        InOp::Offset { op, align, number },
+        offset => Reading::Done(op.op(MemArg { align, offset }))
+    )
+}
+
+fn const_32(mut number: Int32, byte: u8) -> Reading<InOp, Op>
+    ensures { result ≡ const_32_step number byte }
+{
+    number_reading!(
+        number.push(byte),
+        InOp::Const32(number),
+        value => Reading::Done(Op::Simple(Simple::I32Const(value)))
+    )
+}
+
+fn const_64(mut number: Int64, byte: u8) -> Reading<InOp, Op>
+    ensures { result ≡ const_64_step number byte }
+{
+    number_reading!(
+        number.push(byte),
+        InOp::Const64(number),
+        value => Reading::Done(Op::Simple(Simple::I64Const(value)))
+    )
 }
 
 // Takes the byte 00 that ends an op
@@ -323,46 +302,26 @@ fn first_zero(byte: u8) -> Reading<InOp, Op>
     ensures { result ≡ first_zero_step byte }
 {
     match byte {
-        0x00 => Reading::More(InOp::Memory(MemoryOp::Copy)),
+        0x00 => Reading::More(InOp::Memory(MemoryOp::MemoryCopy)),
         _ => Reading::Bad(Why::BadByte),
     }
 }
 
-// Takes a byte of the table index of a `call_indirect`
-fn call_table(profile: Profile, ty: u32, left: u8, byte: u8) -> Reading<InOp, Op>
-    ensures { result ≡ table_step profile ty left byte }
+// Takes a byte of a table index
+fn table(profile: Profile, op: TableOp, left: u8, byte: u8) -> Reading<InOp, Op>
+    ensures { result ≡ table_step profile op left byte }
 {
     if byte == 0x00 {
-        return Reading::Done(Op::Simple(Simple::CallIndirect(ty)));
+        return op.after();
     }
-    if !profile.has(Feature::LongIndex) {
+    if !profile.has(op.feature()) {
         return Reading::Bad(Why::BadByte);
     }
     if left == 0 || byte != 0x80 {
         return Reading::Bad(Why::BadNumber);
     }
     let left = left - 1;
-    Reading::More(InOp::CallTable { ty, left })
-}
-
-fn const_32(mut number: Int32, byte: u8) -> Reading<InOp, Op>
-    ensures { result ≡ const_32_step number byte }
-{
-    match number.push(byte) {
-        Step::More => Reading::More(InOp::Const32(number)),
-        Step::Done(z) => Reading::Done(Op::Simple(Simple::I32Const(z))),
-        Step::Bad => Reading::Bad(Why::BadNumber),
-    }
-}
-
-fn const_64(mut number: Int64, byte: u8) -> Reading<InOp, Op>
-    ensures { result ≡ const_64_step number byte }
-{
-    match number.push(byte) {
-        Step::More => Reading::More(InOp::Const64(number)),
-        Step::Done(z) => Reading::Done(Op::Simple(Simple::I64Const(z))),
-        Step::Bad => Reading::Bad(Why::BadNumber),
-    }
+    Reading::More(InOp::Table { op, left })
 }
 
 /// Adds a byte to the bits of a float: it becomes the highest byte, and those before it move down by one. After all
@@ -406,30 +365,6 @@ fn float_64(left: u8, bits: u64, byte: u8) -> Reading<InOp, Op>
     }
 }
 
-fn align(op: LoadOrStore, mut number: Num32, byte: u8) -> Reading<InOp, Op>
-    ensures { result ≡ align_step op number byte }
-{
-    match number.push(byte) {
-        Step::More => Reading::More(InOp::Align { op, number }),
-        Step::Done(align) => Reading::More(InOp::Offset {
-            op,
-            align,
-            number: Num32::new(),
-        }),
-        Step::Bad => Reading::Bad(Why::BadNumber),
-    }
-}
-
-fn offset(op: LoadOrStore, align: u32, mut number: Num32, byte: u8) -> Reading<InOp, Op>
-    ensures { result ≡ offset_step op align number byte }
-{
-    match number.push(byte) {
-        Step::More => Reading::More(InOp::Offset { op, align, number }),
-        Step::Done(offset) => Reading::Done(op.op(MemArg { align, offset })),
-        Step::Bad => Reading::Bad(Why::BadNumber),
-    }
-}
-
 impl InOp {
     /// Takes one more byte of the op. Fails with `BadOpcode`, `Float`, `BadByte` or `BadNumber`.
     pub fn push(self, profile: Profile, byte: u8) -> Reading<InOp, Op>
@@ -442,7 +377,10 @@ impl InOp {
             InOp::BlockType(op) => block_type(profile, op, byte),
             InOp::Index { op, number } => index(op, number, byte),
             InOp::CallType(number) => call_type(number, byte),
-            InOp::CallTable { ty, left } => call_table(profile, ty, left, byte),
+            InOp::Table { op, left } => table(profile, op, left, byte),
+            InOp::InitElement(number) => init_element(number, byte),
+            InOp::InitSegment(number) => init_segment(number, byte),
+            InOp::InitMemory(segment) => closing(Op::Simple(Simple::MemoryInit(segment)), byte),
             InOp::FirstZero => first_zero(byte),
             InOp::Memory(op) => closing(op.op(), byte),
             InOp::Const32(number) => const_32(number, byte),

@@ -1,14 +1,13 @@
 //! Readers of values, one byte at a time: limits, types of tables and globals, import and export descriptors, runs.
 
 ghost use Rattle.std.specs.Prelude.{◌≡◌};
-ghost use Rattle.wm_machine.specs.exact.ValueSteps.{limits_push, min_step, max_step, table_type_push};
-ghost use Rattle.wm_machine.specs.exact.ValueSteps.{global_type_push, desc_push, func_step, target_push};
-ghost use Rattle.wm_machine.specs.exact.ValueSteps.{target_step, run_push, run_count_step, value_push};
-ghost use Rattle.wm_machine.specs.exact.ValueSteps.{in_table, in_memory, in_global, of_import, of_table};
-ghost use Rattle.wm_machine.specs.exact.ValueSteps.{of_memory, of_export, type_under, value_type_of};
+ghost use Rattle.wm_machine.specs.exact.ValueSteps.{desc_push, global_type_push, limits_push, run_push};
+ghost use Rattle.wm_machine.specs.exact.ValueSteps.{table_type_push, target_push, type_under, value_push};
+ghost use Rattle.wm_machine.specs.exact.ValueSteps.{value_type_of};
 
 use crate::machine::Plain;
 use crate::step::reading::Reading::{self, Bad, Done, More};
+use crate::step::reading::{number_reading, part_reading};
 use wm_syntax::modules::{ExportKind, ImportDesc};
 use wm_syntax::numbers::{Num32, Step};
 use wm_syntax::profile::Profile;
@@ -24,33 +23,6 @@ pub enum InLimits {
     Max { min: u32, number: Num32 },
 }
 
-fn min_byte(bounded: bool, mut number: Num32, byte: u8) -> Reading<InLimits, Limits>
-    ensures { result ≡ min_step bounded number byte }
-{
-    match number.push(byte) {
-        Step::More => More(InLimits::Min { bounded, number }),
-        Step::Done(min) if bounded => More(InLimits::Max {
-            min,
-            number: Num32::new(),
-        }),
-        Step::Done(min) => Done(Limits { min, max: None }),
-        Step::Bad => Bad(Why::BadNumber),
-    }
-}
-
-fn max_byte(min: u32, mut number: Num32, byte: u8) -> Reading<InLimits, Limits>
-    ensures { result ≡ max_step min number byte }
-{
-    match number.push(byte) {
-        Step::More => More(InLimits::Max { min, number }),
-        Step::Done(max) => Done(Limits {
-            min,
-            max: Some(max),
-        }),
-        Step::Bad => Bad(Why::BadNumber),
-    }
-}
-
 fn limits_byte(at: InLimits, byte: u8) -> Reading<InLimits, Limits>
     ensures { result ≡ limits_push at byte }
 {
@@ -62,8 +34,23 @@ fn limits_byte(at: InLimits, byte: u8) -> Reading<InLimits, Limits>
             }),
             _ => Bad(Why::BadByte),
         },
-        InLimits::Min { bounded, number } => min_byte(bounded, number, byte),
-        InLimits::Max { min, number } => max_byte(min, number, byte),
+        InLimits::Min {
+            bounded,
+            mut number,
+        } => number_reading!(
+            number.push(byte),
+            InLimits::Min { bounded, number },
+            min => if bounded {
+                More(InLimits::Max { min, number: Num32::new() })
+            } else {
+                Done(Limits { min, max: None })
+            }
+        ),
+        InLimits::Max { min, mut number } => number_reading!(
+            number.push(byte),
+            InLimits::Max { min, number },
+            max => Done(Limits { min, max: Some(max) })
+        ),
     }
 }
 
@@ -82,11 +69,11 @@ fn table_type_byte(at: InTableType, byte: u8) -> Reading<InTableType, Limits>
             0x70 => More(InTableType::Limits(InLimits::Flag)),
             _ => Bad(Why::BadByte),
         },
-        InTableType::Limits(at) => match limits_byte(at, byte) {
-            More(at) => More(InTableType::Limits(at)),
-            Done(limits) => Done(limits),
-            Bad(why) => Bad(why),
-        },
+        InTableType::Limits(at) => part_reading!(
+            limits_byte(at, byte),
+            at => InTableType::Limits(at),
+            limits => limits
+        ),
     }
 }
 
@@ -154,46 +141,6 @@ pub enum InImportDesc {
     Global(InGlobalType),
 }
 
-fn func_byte(mut number: Num32, byte: u8) -> Reading<InImportDesc, ImportDesc>
-    ensures { result ≡ func_step number byte }
-{
-    match number.push(byte) {
-        Step::More => More(InImportDesc::Func(number)),
-        Step::Done(index) => Done(ImportDesc::Func(index)),
-        Step::Bad => Bad(Why::BadNumber),
-    }
-}
-
-fn table_desc(reading: Reading<InTableType, Limits>) -> Reading<InImportDesc, ImportDesc>
-    ensures { result ≡ in_table reading }
-{
-    match reading {
-        More(at) => More(InImportDesc::Table(at)),
-        Done(limits) => Done(ImportDesc::Table(limits)),
-        Bad(why) => Bad(why),
-    }
-}
-
-fn memory_desc(reading: Reading<InLimits, Limits>) -> Reading<InImportDesc, ImportDesc>
-    ensures { result ≡ in_memory reading }
-{
-    match reading {
-        More(at) => More(InImportDesc::Memory(at)),
-        Done(limits) => Done(ImportDesc::Memory(limits)),
-        Bad(why) => Bad(why),
-    }
-}
-
-fn global_desc(reading: Reading<InGlobalType, GlobalType>) -> Reading<InImportDesc, ImportDesc>
-    ensures { result ≡ in_global reading }
-{
-    match reading {
-        More(at) => More(InImportDesc::Global(at)),
-        Done(ty) => Done(ImportDesc::Global(ty)),
-        Bad(why) => Bad(why),
-    }
-}
-
 fn desc_byte(profile: Profile, at: InImportDesc, byte: u8) -> Reading<InImportDesc, ImportDesc>
     ensures { result ≡ desc_push profile at byte }
 {
@@ -205,10 +152,26 @@ fn desc_byte(profile: Profile, at: InImportDesc, byte: u8) -> Reading<InImportDe
             0x03 => More(InImportDesc::Global(InGlobalType::Type)),
             _ => Bad(Why::BadByte),
         },
-        InImportDesc::Func(number) => func_byte(number, byte),
-        InImportDesc::Table(at) => table_desc(table_type_byte(at, byte)),
-        InImportDesc::Memory(at) => memory_desc(limits_byte(at, byte)),
-        InImportDesc::Global(at) => global_desc(global_type_byte(profile, at, byte)),
+        InImportDesc::Func(mut number) => number_reading!(
+            number.push(byte),
+            InImportDesc::Func(number),
+            index => Done(ImportDesc::Func(index))
+        ),
+        InImportDesc::Table(at) => part_reading!(
+            table_type_byte(at, byte),
+            at => InImportDesc::Table(at),
+            limits => ImportDesc::Table(limits)
+        ),
+        InImportDesc::Memory(at) => part_reading!(
+            limits_byte(at, byte),
+            at => InImportDesc::Memory(at),
+            limits => ImportDesc::Memory(limits)
+        ),
+        InImportDesc::Global(at) => part_reading!(
+            global_type_byte(profile, at, byte),
+            at => InImportDesc::Global(at),
+            ty => ImportDesc::Global(ty)
+        ),
     }
 }
 
@@ -219,25 +182,17 @@ pub enum InExportDesc {
     Index { kind: ExportKind, number: Num32 },
 }
 
-fn target_index(
-    kind: ExportKind,
-    mut number: Num32,
-    byte: u8,
-) -> Reading<InExportDesc, (ExportKind, u32)>
-    ensures { result ≡ target_step kind number byte }
-{
-    match number.push(byte) {
-        Step::More => More(InExportDesc::Index { kind, number }),
-        Step::Done(index) => Done((kind, index)),
-        Step::Bad => Bad(Why::BadNumber),
-    }
-}
-
 fn target_byte(at: InExportDesc, byte: u8) -> Reading<InExportDesc, (ExportKind, u32)>
     ensures { result ≡ target_push at byte }
 {
     let kind = match at {
-        InExportDesc::Index { kind, number } => return target_index(kind, number, byte),
+        InExportDesc::Index { kind, mut number } => {
+            return number_reading!(
+                number.push(byte),
+                InExportDesc::Index { kind, number },
+                index => Done((kind, index))
+            );
+        }
         InExportDesc::Kind => match byte {
             0x00 => ExportKind::Func,
             0x01 => ExportKind::Table,
@@ -259,22 +214,16 @@ pub enum InRun {
     Type { count: u32 },
 }
 
-fn run_count(mut number: Num32, byte: u8) -> Reading<InRun, (u32, ValType)>
-    ensures { result ≡ run_count_step number byte }
-{
-    match number.push(byte) {
-        Step::More => More(InRun::Count(number)),
-        Step::Done(count) => More(InRun::Type { count }),
-        Step::Bad => Bad(Why::BadNumber),
-    }
-}
-
 /// Takes a byte of a run of locals. Fails with `BadNumber`, or as `value_type` does.
 pub(crate) fn run_byte(profile: Profile, at: InRun, byte: u8) -> Reading<InRun, (u32, ValType)>
     ensures { result ≡ run_push profile at byte }
 {
     match at {
-        InRun::Count(number) => run_count(number, byte),
+        InRun::Count(mut number) => number_reading!(
+            number.push(byte),
+            InRun::Count(number),
+            count => More(InRun::Type { count })
+        ),
         InRun::Type { count } => match value_type(profile, byte) {
             Ok(ty) => Done((count, ty)),
             Err(why) => Bad(why),
@@ -291,54 +240,30 @@ pub enum InValue {
     Export(InExportDesc),
 }
 
-fn import_part(reading: Reading<InImportDesc, ImportDesc>) -> Reading<InValue, Plain>
-    ensures { result ≡ of_import reading }
-{
-    match reading {
-        More(at) => More(InValue::Import(at)),
-        Done(desc) => Done(Plain::Import(desc)),
-        Bad(why) => Bad(why),
-    }
-}
-
-fn table_part(reading: Reading<InTableType, Limits>) -> Reading<InValue, Plain>
-    ensures { result ≡ of_table reading }
-{
-    match reading {
-        More(at) => More(InValue::Table(at)),
-        Done(limits) => Done(Plain::Table(limits)),
-        Bad(why) => Bad(why),
-    }
-}
-
-fn memory_part(reading: Reading<InLimits, Limits>) -> Reading<InValue, Plain>
-    ensures { result ≡ of_memory reading }
-{
-    match reading {
-        More(at) => More(InValue::Memory(at)),
-        Done(limits) => Done(Plain::Memory(limits)),
-        Bad(why) => Bad(why),
-    }
-}
-
-fn export_part(reading: Reading<InExportDesc, (ExportKind, u32)>) -> Reading<InValue, Plain>
-    ensures { result ≡ of_export reading }
-{
-    match reading {
-        More(at) => More(InValue::Export(at)),
-        Done((kind, index)) => Done(Plain::Export(kind, index)),
-        Bad(why) => Bad(why),
-    }
-}
-
 /// Takes a byte of such a value. Fails with `BadByte`, `BadNumber` or `Float`.
 pub fn value_byte(profile: Profile, at: InValue, byte: u8) -> Reading<InValue, Plain>
     ensures { result ≡ value_push profile at byte }
 {
     match at {
-        InValue::Import(at) => import_part(desc_byte(profile, at, byte)),
-        InValue::Table(at) => table_part(table_type_byte(at, byte)),
-        InValue::Memory(at) => memory_part(limits_byte(at, byte)),
-        InValue::Export(at) => export_part(target_byte(at, byte)),
+        InValue::Import(at) => part_reading!(
+            desc_byte(profile, at, byte),
+            at => InValue::Import(at),
+            desc => Plain::Import(desc)
+        ),
+        InValue::Table(at) => part_reading!(
+            table_type_byte(at, byte),
+            at => InValue::Table(at),
+            limits => Plain::Table(limits)
+        ),
+        InValue::Memory(at) => part_reading!(
+            limits_byte(at, byte),
+            at => InValue::Memory(at),
+            limits => Plain::Memory(limits)
+        ),
+        InValue::Export(at) => part_reading!(
+            target_byte(at, byte),
+            at => InValue::Export(at),
+            (kind, index) => Plain::Export(kind, index)
+        ),
     }
 }

@@ -30,11 +30,12 @@ use Rattle.wm_syntax.specs.declared.instructions.Numeric.{Numeric}
 use Rattle.wm_syntax.specs.declared.instructions.Simple.TheVariants as s
 use Rattle.wm_syntax.specs.declared.instructions.Op.TheVariants as op
 use Rattle.wm_syntax.specs.declared.instructions.op_class.OpClass.{OpClass}
-use Rattle.wm_syntax.specs.declared.instructions.op_class.OpClass.TheVariants.{Plain}
+use Rattle.wm_syntax.specs.declared.instructions.op_class.OpClass.TheVariants.{Plain, With}
+use Rattle.wm_syntax.specs.declared.instructions.op_class.Immediates.TheVariants.{Access}
 use Rattle.wm_syntax.specs.declared.profile.Feature.TheVariants.{Base}
 use Rattle.wm_syntax.specs.exact.ByteTable.{class_feature, classes, row_in}
-use Rattle.wm_machine.specs.declared.step.ops.LoadOrStore.{LoadOrStore}
-use Rattle.wm_machine.specs.exact.OpSteps.{access_class, class_step, op_push}
+use Rattle.wm_syntax.specs.declared.instructions.op_class.LoadOrStore.{LoadOrStore}
+use Rattle.wm_machine.specs.exact.OpSteps.{class_step, op_push}
 use Rattle.wm_machine.specs.exact.ExpressionSteps.{at_next_op, after_op}
 
 -- after a byte of a number: the number v is complete and no byte follows, or the rest continues it
@@ -79,7 +80,7 @@ HasNumeric byte o = slice_get classes byte ≡ Some (Plain (op.Simple (s.Numeric
 
 -- the byte begins this load or store under every profile
 abbrev pub HasAccess : ℕ → LoadOrStore → Type 0
-HasAccess byte a = (slice_get classes byte ≡ Some (access_class a)) × (class_feature (access_class a) ≡ Base)
+HasAccess byte a = (slice_get classes byte ≡ Some (With (Access a))) × (class_feature (With (Access a)) ≡ Base)
 
 -- the result of the reader of an op after this first byte, if it is not FC
 abbrev pub first_read : Profile → ℕ → Reading InOp Op

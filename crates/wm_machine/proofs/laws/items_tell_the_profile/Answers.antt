@@ -3,6 +3,6 @@ use Rattle.wm_machine.proofs.laws.items_tell_the_profile.Goals as goal
 
 pub returns : goal.returns
 returns c = record {
-  more = λ p q v b more h. spelled_of_items p q v b more h;
-  less = λ p q v b more alike h own. spelled_by_items p q v b more alike h own;
+  more = λ p q v b more elements segments h. spelled_of_items p q v b more elements segments h;
+  less = λ p q v b more alike fronts h own. spelled_by_items p q v b more alike fronts h own;
 }

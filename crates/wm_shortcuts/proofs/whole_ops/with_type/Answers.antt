@@ -1,6 +1,6 @@
 use Rattle.std.proofs.Common.{◌+◌, ◌<◌, ◌-◌, ◌^◌, Some, None, arith, sym, subst, refl}
 use Rattle.wm_syntax.specs.declared.types.ValType.TheVariants.{I32, I64}
-use Rattle.wm_machine.specs.exact.OpSteps.{block_op}
+use Rattle.wm_syntax.specs.exact.OpShapes.{block_op}
 use Rattle.wm_shortcuts.specs.exact.WholeOps.{WholeOp}
 use Rattle.wm_shortcuts.proofs.OpLists.{whole_typed}
 use Rattle.wm_shortcuts.proofs.whole_ops.with_type.Goals as goal

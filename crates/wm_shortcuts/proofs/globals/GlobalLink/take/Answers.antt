@@ -9,17 +9,17 @@ returns-in-Err g c =
     let x = c.in-Some-global_at in
     let some : 2 < x.found.value.stop = x.ensures.op.some in
     let within : x.found.value.stop < length c.args.bytes.now = x.ensures.within in
-    first_refused c.in-Some.ensures (global_typed c.in-Some.start x.found.ty x.ensures.ty x.ensures.var (omega arith) (omega arith)) (omega arith) nothing c.out.ensures.used c.give.result _ c.out.ensures.refused c.in-Err.is c.give.ensures.given c.give.ensures.room
+    first_refused c.in-Some.ensures (global_typed c.in-Some.start x.found.ty x.ensures.ty x.ensures.var (omega arith) (omega arith)) (omega arith) nothing c.out.ensures.used c.give_global.result _ c.out.ensures.refused c.in-Err.is c.give_global.ensures.given c.give_global.ensures.room
 
-pub returns-in-Err-give : goal.returns-in-Err-give
-returns-in-Err-give g c =
+pub returns-in-Err-give_constant : goal.returns-in-Err-give_constant
+returns-in-Err-give_constant g c =
     let x = c.in-Some-global_at in
-    let out = c.out-in-Err-give in
+    let out = c.out-in-Err-give_constant in
     let some : 2 < x.found.value.stop = x.ensures.op.some in
-    first_refused c.in-Some.ensures (global_valued c.in-Some.start x.found.ty x.ensures.ty x.ensures.var x.ensures.op x.ensures.within (omega arith)) (omega arith) (also nothing c.in_default-give.ensures.given) out.ensures.used c.give-2.result _ out.ensures.refused c.in-Err-give.is c.give-2.ensures.given c.give-2.ensures.room
+    first_refused c.in-Some.ensures (global_valued c.in-Some.start x.found.ty x.ensures.ty x.ensures.var x.ensures.op x.ensures.within (omega arith)) (omega arith) (also nothing c.in_default-give_global.ensures.given) out.ensures.used c.give_constant.result _ out.ensures.refused c.in-Err-give_constant.is c.give_constant.ensures.given c.give_constant.ensures.room
 
 pub returns : goal.returns
 returns g c =
     let x = c.in-Some-global_at in
     let some : 2 < x.found.value.stop = x.ensures.op.some in
-    first_taken c.in-Some.ensures (global_closed c.in-Some.start x.found.ty x.ensures.ty x.ensures.var x.ensures.op x.ensures.within (omega arith) x.ensures.end) (omega arith) (also (also nothing c.in_default-give.ensures.given) c.in_default-give-2.ensures.given) c.ended.ensures.used c.give-given.result _ c.over.ensures c.ended.ensures.refused c.give-given.ensures.given c.give-given.ensures.room
+    first_taken c.in-Some.ensures (global_closed c.in-Some.start x.found.ty x.ensures.ty x.ensures.var x.ensures.op x.ensures.within (omega arith) x.ensures.end) (omega arith) (also (also nothing c.in_default-give_global.ensures.given) c.in_default-give_constant.ensures.given) c.ended.ensures.used c.give_constant-given.result _ c.over.ensures c.ended.ensures.refused c.give_constant-given.ensures.given c.give_constant-given.ensures.room
