@@ -1,5 +1,9 @@
 -- The items of a module build it.
 use Rattle.std.proofs.Common.{ℕ, ◌+◌, ◌≡◌, ◌<◌, ◌^◌, List, [], ◌∷◌, ◌++◌, Option, Some, None, cond, Result, Ok, Err, length, refl, sym, ◌∙◌, ap, subst, append_assoc, append-nil, length-append, arith, map, flat_map, replicate, slice_get}
+use Rattle.wm_machine.specs.Flat.{element_head, offset_ops, segment_head}
+use Rattle.wm_syntax.specs.Modules.{index_of}
+use Rattle.wm_syntax.specs.declared.modules.SegmentMode.TheVariants.{Passive, Active}
+use Rattle.wm_syntax.specs.declared.modules.SegmentMode.{SegmentMode}
 use Rattle.std.proofs.lemmas.List.{length-replicate, map-append}
 use Rattle.std.specs.Prelude.{IsUtf8, unwrap_or}
 use Rattle.std.proofs.lemmas.Str.{is_utf8-from_IsUtf8}
@@ -19,9 +23,10 @@ use Rattle.wm_syntax.specs.inner.Building.{Place, at, start, placed, if_placed, 
 use Rattle.wm_syntax.proofs.Places.{leads}
 use Rattle.wm_syntax.specs.exact.Runs.{add_run}
 use Rattle.wm_syntax.specs.Modules.{locals_of}
-use Rattle.wm_machine.specs.Items.{Item, param, result_count, one_result, import_name, import_desc, function, table, memory, global, const_op, export, element, element_function, locals, body_op, segment, data_byte}
+use Rattle.wm_machine.specs.Items.{Item, param, result_count, one_result, import_name, import_desc, function, table, memory, global, const_op, export, element_function, locals, body_op, data_byte}
 use Rattle.wm_machine.specs.Sinks.{and_then, all_taken}
 use Rattle.wm_machine.specs.Flat.{FlatModule, FlatGlobal, FlatElement, FlatCode, FlatSegment, type_items, import_items, global_items, export_items, start_items, element_items, code_items, segment_items, flat_items, constant_ops, IsFlatOf, IsIndexOf, IsCodeOf, IsGlobalOf, IsElementOf, IsSegmentOf}
+use Rattle.wm_rules.proofs.Members.{count_skipped}
 use Rattle.wm_rules.specs.declared.builder.Purpose.{Purpose}
 use Rattle.wm_rules.specs.declared.builder.Purpose.TheVariants as purpose
 use Rattle.wm_rules.specs.exact.Built.{Built, change_last, holding, nothing, expecting, member_added, if_it_stands, name_from, after}
@@ -132,38 +137,54 @@ global_built m xs gs g v r =
 abbrev elements_held : Module → List ℕ → List Element → Built
 elements_held m xs es = holding (record m { elements = es }) xs
 
-element_function_taken : (m : Module) (xs : List ℕ) (es : List Element) (t : ℕ) (o : Const) (fs : List ℕ) (y : ℕ)
-    → after (elements_held m xs (es ++ record { table = t; offset = o; functions = fs } ∷ [])) (element_function y) ≡ Ok (elements_held m xs (es ++ record { table = t; offset = o; functions = fs ++ y ∷ [] } ∷ []))
-element_function_taken m xs es t o fs y = rw (on_last_put (λ e. record e { functions = e.functions ++ y ∷ [] }) (record { table = t; offset = o; functions = fs }) es) refl
+element_function_taken : (m : Module) (xs : List ℕ) (es : List Element) (d : SegmentMode) (fs : List ℕ) (y : ℕ)
+    → after (elements_held m xs (es ++ record { mode = d; functions = fs } ∷ [])) (element_function y) ≡ Ok (elements_held m xs (es ++ record { mode = d; functions = fs ++ y ∷ [] } ∷ []))
+element_function_taken m xs es d fs y = rw (on_last_put (λ e. record e { functions = e.functions ++ y ∷ [] }) (record { mode = d; functions = fs }) es) refl
+
+functions_taken : (m : Module) (xs : List ℕ) (es : List Element) (d : SegmentMode) (fs : List ℕ)
+    → all_taken after (elements_held m xs (es ++ record { mode = d; functions = [] } ∷ [])) (map element_function fs) ≡ Ok (elements_held m xs (es ++ record { mode = d; functions = fs } ∷ []))
+functions_taken m xs es d fs = each_part_only (λ fs. elements_held m xs (es ++ record { mode = d; functions = fs } ∷ [])) element_function (λ fs y. element_function_taken m xs es d fs y) [] fs
+
+element_mode_built : (m : Module) (xs : List ℕ) (es : List Element) (d : SegmentMode) (fs : List ℕ)
+    → all_taken after (elements_held m xs es) (element_head (index_of d) ∷ map const_op (offset_ops d) ++ map element_function fs) ≡ Ok (elements_held m xs (es ++ record { mode = d; functions = fs } ∷ []))
+element_mode_built m xs es Passive fs = functions_taken m xs es Passive fs
+element_mode_built m xs es (Active x c) fs =
+    first_then (map const_op (constant_ops c)) (map element_function fs) (expecting (purpose.Element x) (elements_held m xs es)) _ (constant_built (purpose.Element x) c (record m { elements = es }) xs)
+    ∙ functions_taken m xs es (Active x c) fs
 
 element_built : (m : Module) (xs : List ℕ) (es : List Element) (e : Element) (v : FlatElement) → IsElementOf e v
     → all_taken after (elements_held m xs es) (element_items v) ≡ Ok (elements_held m xs (es ++ e ∷ []))
 element_built m xs es e v r =
-    ap (λ t. all_taken after (elements_held m xs es) (element t ∷ map const_op v.offset ++ map element_function v.functions)) r.0
-    ∙ ap (λ o. all_taken after (expecting (purpose.Element e.table) (elements_held m xs es)) (map const_op o ++ map element_function v.functions)) r.1
-    ∙ first_then (map const_op (constant_ops e.offset)) (map element_function v.functions) (expecting (purpose.Element e.table) (elements_held m xs es)) _
-    (constant_built (purpose.Element e.table) e.offset (record m { elements = es }) xs)
-    ∙ each_part_only (λ fs. elements_held m xs (es ++ record { table = e.table; offset = e.offset; functions = fs } ∷ [])) element_function
-    (λ fs y. element_function_taken m xs es e.table e.offset fs y) [] v.functions
-    ∙ ap (λ fs. Ok (elements_held m xs (es ++ record { table = e.table; offset = e.offset; functions = fs } ∷ []))) r.2
+    ap (λ x. all_taken after (elements_held m xs es) (element_head x ∷ map const_op v.offset ++ map element_function v.functions)) r.0
+    ∙ ap (λ o. all_taken after (elements_held m xs es) (element_head (index_of e.mode) ∷ map const_op o ++ map element_function v.functions)) r.1
+    ∙ element_mode_built m xs es e.mode v.functions
+    ∙ ap (λ fs. Ok (elements_held m xs (es ++ record { mode = e.mode; functions = fs } ∷ []))) r.2
 
 abbrev segments_held : Module → List ℕ → List Segment → Built
 segments_held m xs ss = holding (record m { segments = ss }) xs
 
-byte_taken : (m : Module) (xs : List ℕ) (ss : List Segment) (t : ℕ) (o : Const) (bs : List ℕ) (c : ℕ)
-    → after (segments_held m xs (ss ++ record { memory = t; offset = o; bytes = bs } ∷ [])) (data_byte c) ≡ Ok (segments_held m xs (ss ++ record { memory = t; offset = o; bytes = bs ++ c ∷ [] } ∷ []))
-byte_taken m xs ss t o bs c = rw (on_last_put (λ s. record s { bytes = s.bytes ++ c ∷ [] }) (record { memory = t; offset = o; bytes = bs }) ss) refl
+byte_taken : (m : Module) (xs : List ℕ) (ss : List Segment) (d : SegmentMode) (bs : List ℕ) (c : ℕ)
+    → after (segments_held m xs (ss ++ record { mode = d; bytes = bs } ∷ [])) (data_byte c) ≡ Ok (segments_held m xs (ss ++ record { mode = d; bytes = bs ++ c ∷ [] } ∷ []))
+byte_taken m xs ss d bs c = rw (on_last_put (λ s. record s { bytes = s.bytes ++ c ∷ [] }) (record { mode = d; bytes = bs }) ss) refl
+
+bytes_taken : (m : Module) (xs : List ℕ) (ss : List Segment) (d : SegmentMode) (bs : List ℕ)
+    → all_taken after (segments_held m xs (ss ++ record { mode = d; bytes = [] } ∷ [])) (map data_byte bs) ≡ Ok (segments_held m xs (ss ++ record { mode = d; bytes = bs } ∷ []))
+bytes_taken m xs ss d bs = each_part_only (λ bs. segments_held m xs (ss ++ record { mode = d; bytes = bs } ∷ [])) data_byte (λ bs c. byte_taken m xs ss d bs c) [] bs
+
+mode_built : (m : Module) (xs : List ℕ) (ss : List Segment) (d : SegmentMode) (bs : List ℕ)
+    → all_taken after (segments_held m xs ss) (segment_head (index_of d) ∷ map const_op (offset_ops d) ++ map data_byte bs) ≡ Ok (segments_held m xs (ss ++ record { mode = d; bytes = bs } ∷ []))
+mode_built m xs ss Passive bs = bytes_taken m xs ss Passive bs
+mode_built m xs ss (Active x c) bs =
+    first_then (map const_op (constant_ops c)) (map data_byte bs) (expecting (purpose.Segment x) (segments_held m xs ss)) _ (constant_built (purpose.Segment x) c (record m { segments = ss }) xs)
+    ∙ bytes_taken m xs ss (Active x c) bs
 
 segment_built : (m : Module) (xs : List ℕ) (ss : List Segment) (s : Segment) (v : FlatSegment) → IsSegmentOf s v
     → all_taken after (segments_held m xs ss) (segment_items v) ≡ Ok (segments_held m xs (ss ++ s ∷ []))
 segment_built m xs ss s v r =
-    ap (λ t. all_taken after (segments_held m xs ss) (segment t ∷ map const_op v.offset ++ map data_byte v.bytes)) r.0
-    ∙ ap (λ o. all_taken after (expecting (purpose.Segment s.memory) (segments_held m xs ss)) (map const_op o ++ map data_byte v.bytes)) r.1
-    ∙ first_then (map const_op (constant_ops s.offset)) (map data_byte v.bytes) (expecting (purpose.Segment s.memory) (segments_held m xs ss)) _
-    (constant_built (purpose.Segment s.memory) s.offset (record m { segments = ss }) xs)
-    ∙ each_part_only (λ bs. segments_held m xs (ss ++ record { memory = s.memory; offset = s.offset; bytes = bs } ∷ [])) data_byte
-    (λ bs c. byte_taken m xs ss s.memory s.offset bs c) [] v.bytes
-    ∙ ap (λ bs. Ok (segments_held m xs (ss ++ record { memory = s.memory; offset = s.offset; bytes = bs } ∷ []))) r.2
+    ap (λ x. all_taken after (segments_held m xs ss) (segment_head x ∷ map const_op v.offset ++ map data_byte v.bytes)) r.0
+    ∙ ap (λ o. all_taken after (segments_held m xs ss) (segment_head (index_of s.mode) ∷ map const_op o ++ map data_byte v.bytes)) r.1
+    ∙ mode_built m xs ss s.mode v.bytes
+    ∙ ap (λ bs. Ok (segments_held m xs (ss ++ record { mode = s.mode; bytes = bs } ∷ []))) r.2
 
 -- code entries
 abbrev in_code : Module → List ℕ → List ValType → Place → Built
@@ -304,6 +325,7 @@ module _ (m : Module) where
       ∙ each_same (exports_held with_globals' numbers) export_items (λ e. IsUtf8 e.name) (λ es e u. export_built with_globals' numbers es e u) m.exports v.exports _ r.exports exported
       ∙ start_built with_exports' numbers m.start v.start _ r.start refl
       ∙ each_member (elements_held with_start' numbers) element_items IsElementOf (λ es e x h. element_built with_start' numbers es e x h) [] m.elements v.elements _ r.elements
+      ∙ count_skipped after (λ h n. refl) v.data_count _ (holding with_elements' numbers)
       ∙ codes_built with_elements' numbers _ [] m.functions v.codes r.codes refl
       ∙ ap (all_taken after (holding with_functions' numbers)) (sym (append-nil (flat_map segment_items v.segments)))
       ∙ each_member (segments_held with_functions' numbers) segment_items IsSegmentOf (λ ss s x h. segment_built with_functions' numbers ss s x h) [] m.segments v.segments [] r.segments

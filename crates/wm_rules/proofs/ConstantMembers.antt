@@ -25,10 +25,10 @@ use Rattle.wm_rules.specs.declared.constants.Constant.{Constant}
 use Rattle.wm_rules.specs.Validation.{TypedConst}
 use Rattle.wm_rules.specs.exact.Spaces.{one_if}
 use Rattle.wm_rules.specs.exact.Constants.{constant_after, constant_expecting, of_global, of_type, visible}
-use Rattle.wm_rules.specs.exact.Checking.{after, constant_begun, where_ok, with_constant}
+use Rattle.wm_rules.specs.exact.Checking.{after, constant_begun, where_ok, with_constant, with_element}
 use Rattle.wm_rules.specs.Holding.{Held}
-use Rattle.wm_machine.specs.Flat.{FlatGlobal, FlatElement, FlatSegment, constant_ops, global_items, element_items, segment_items}
-use Rattle.wm_rules.proofs.GoodValues.{IsTypedConst}
+use Rattle.wm_machine.specs.Flat.{FlatGlobal, FlatElement, FlatSegment, constant_ops, global_items, element_head, element_items, segment_head, segment_items}
+use Rattle.wm_rules.proofs.GoodValues.{IsGoodMode, IsOffset, IsTypedConst}
 use Rattle.wm_rules.proofs.MemberFolds.{cond_ok, Member}
 
 -- the globals that may be named are the first ones
@@ -231,14 +231,51 @@ head_sound : (b : Bool) (h g : Held) (rest : List Item)
 head_sound true h g rest e = (refl, e)
 head_sound false h g rest e = absurd (cc)
 
-abbrev pub put_segment : {X : Type 0} → Held → X → Held
-put_segment h x = with_const h None
+-- what the format demands of a segment
+abbrev pub HasOffset : {X : Type 0} → (X → Option ℕ) → (X → List Op) → Held → X → Type 0
+HasOffset index offset h x = IsOffset (index x) (offset x)
+
+-- the state after the offset of a segment, which an active one has
+abbrev pub put_offset : Held → Option ℕ → Held
+put_offset h None = h
+put_offset h (Some x) = with_const h None
+
+pub offset_keeps : (P : Held → Type 0) → ((h : Held) → P h → P (with_const h None)) → (h : Held) (x : Option ℕ) → P h → P (put_offset h x)
+offset_keeps P f h None i = i
+offset_keeps P f h (Some x) i = f h i
+
+-- a table or memory with this index, among so many, and an offset
+abbrev GoodMode : (targets : ℕ) → Held → Option ℕ → List Op → Type 0
+GoodMode targets h x ops = IsGoodMode targets (take (length h.spaces.globals) h.spaces.globals) x ops
+
+-- the items of an active segment
+module _ (targets : ℕ) (h : Held) (x : ℕ) (ops : List Op) (rest : List Item) where
+  abbrev Begun : Result Held Why
+  Begun =
+      and_then (and_then (cond (nat_lt x targets) (Ok tt) (Err why.Index)) (λ (u : Unit {0}). Ok (constant_begun I32 (length h.spaces.globals) h)))
+      (λ g. all_taken after g (map const_op ops ++ rest))
+
+  active_takes : GoodMode targets h (Some x) ops → Begun ≡ all_taken after (with_const h None) rest
+  active_takes good =
+      head_takes (nat_lt x targets) h (map const_op ops ++ rest) (lt-ltb x targets good.0)
+      ∙ (ap (λ z. all_taken after (with_const h (Some (constant_expecting I32 (length h.spaces.globals)))) (map const_op z ++ rest)) good.1.1
+      ∙ const_takes good.1.0 h I32 (length h.spaces.globals) rest good.1.2)
+
+  active_sound : (g : Held) → IsExpression ops → Begun ≡ Ok g → GoodMode targets h (Some x) ops
+  active_sound g i q =
+      let a = head_sound (nat_lt x targets) h g (map const_op ops ++ rest) q in
+      (ltb-true x targets a.0, const_sound ops rest I32 (length h.spaces.globals) h g i a.1)
 
 -- element segments
 abbrev pub GoodElement : Held → FlatElement → Type 0
-GoodElement h e =
-    (e.table < one_if h.spaces.has_table) × IsTypedConst (take (length h.spaces.globals) h.spaces.globals) e.offset I32
-    × AllByRecursion (λ x. x < length h.spaces.functions) e.functions
+GoodElement h e = GoodMode (one_if h.spaces.has_table) h e.table e.offset × AllByRecursion (λ x. x < length h.spaces.functions) e.functions
+
+-- the state after one
+abbrev pub put_element : Held → FlatElement → Held
+put_element h e = put_offset (with_element h) e.table
+
+pub element_keeps : (P : Held → Type 0) → ((h : Held) → P h → P (with_element h)) → ((h : Held) → P h → P (with_const h None)) → (h : Held) (e : FlatElement) → P h → P (put_element h e)
+element_keeps P counted given h e i = offset_keeps P given (with_element h) e.table (counted h i)
 
 functions_take : (xs : List ℕ) (h : Held) → AllByRecursion (λ x. x < length h.spaces.functions) xs → all_taken after h (map element_function xs) ≡ Ok h
 functions_take [] h g = refl
@@ -255,44 +292,58 @@ functions_sound (x ∷ xs) h g e = go (functions_sound xs h g) (nat_lt x (length
     go next true is e = (ltb-true x (length h.spaces.functions) is, next e)
     go next false is e = absurd (cc)
 
-element_takes : (h : Held) (e : FlatElement) → GoodElement h e → all_taken after h (element_items e) ≡ Ok (put_segment h e)
-element_takes h e good =
-    head_takes (nat_lt e.table (one_if h.spaces.has_table)) h (map const_op e.offset ++ map element_function e.functions) (lt-ltb e.table (one_if h.spaces.has_table) good.0)
-    ∙ (ap (λ z. all_taken after (with_const h (Some (constant_expecting I32 (length h.spaces.globals)))) (map const_op z ++ map element_function e.functions)) good.1.1
-    ∙ (const_takes good.1.0 h I32 (length h.spaces.globals) (map element_function e.functions) good.1.2
-    ∙ functions_take e.functions (with_const h None) good.2))
+abbrev items_of_element : Option ℕ → List Op → List ℕ → List Item
+items_of_element x ops functions = element_head x ∷ map const_op ops ++ map element_function functions
 
-element_sound : (h g : Held) (e : FlatElement) → IsExpression e.offset → all_taken after h (element_items e) ≡ Ok g → GoodElement h e
-element_sound h g e i q =
-    let a = head_sound (nat_lt e.table (one_if h.spaces.has_table)) h g (map const_op e.offset ++ map element_function e.functions) q in
-    let b = const_sound e.offset (map element_function e.functions) I32 (length h.spaces.globals) h g i a.1 in
-    let rest = sym (const_takes b.0 h I32 (length h.spaces.globals) (map element_function e.functions) b.2)
-    ∙ (sym (ap (λ z. all_taken after (with_const h (Some (constant_expecting I32 (length h.spaces.globals)))) (map const_op z ++ map element_function e.functions)) b.1) ∙ a.1) in
-    (ltb-true e.table (one_if h.spaces.has_table) a.0, b, functions_sound e.functions (with_const h None) g rest)
+abbrev HasFunctions : Held → List ℕ → Type 0
+HasFunctions h functions = AllByRecursion (λ x. x < length h.spaces.functions) functions
 
-pub element_member : Member after element_items (Expresses (λ e. e.offset)) GoodElement put_segment
-element_member = record { takes = λ h e i good. element_takes h e good; sound = λ h g e i q. element_sound h g e i q }
+element_takes : (h : Held) (x : Option ℕ) (ops : List Op) (functions : List ℕ) → GoodMode (one_if h.spaces.has_table) h x ops → HasFunctions h functions
+    → all_taken after h (items_of_element x ops functions) ≡ Ok (put_offset (with_element h) x)
+element_takes h None ops functions good few =
+    ap (λ z. all_taken after (with_element h) (map const_op z ++ map element_function functions)) good ∙ functions_take functions (with_element h) few
+element_takes h (Some x) ops functions good few =
+    active_takes (one_if h.spaces.has_table) (with_element h) x ops (map element_function functions) good ∙ functions_take functions (with_const (with_element h) None) few
+
+element_sound : (h g : Held) (x : Option ℕ) (ops : List Op) (functions : List ℕ) → IsOffset x ops → all_taken after h (items_of_element x ops functions) ≡ Ok g
+    → GoodMode (one_if h.spaces.has_table) h x ops × HasFunctions h functions
+element_sound h g None ops functions i q =
+    (i, functions_sound functions (with_element h) g (sym (ap (λ z. all_taken after (with_element h) (map const_op z ++ map element_function functions)) i) ∙ q))
+element_sound h g (Some x) ops functions i q =
+    let mode = active_sound (one_if h.spaces.has_table) (with_element h) x ops (map element_function functions) g i q in
+    (mode, functions_sound functions (with_const (with_element h) None) g (sym (active_takes (one_if h.spaces.has_table) (with_element h) x ops (map element_function functions) mode) ∙ q))
+
+pub element_member : Member after element_items (HasOffset (λ e. e.table) (λ e. e.offset)) GoodElement put_element
+element_member = record {
+  takes = λ h e i good. element_takes h e.table e.offset e.functions good.0 good.1;
+  sound = λ h g e i q. element_sound h g e.table e.offset e.functions i q;
+}
 
 -- data segments
 abbrev pub GoodSegment : Held → FlatSegment → Type 0
-GoodSegment h s =
-    (s.memory < one_if h.spaces.has_memory) × IsTypedConst (take (length h.spaces.globals) h.spaces.globals) s.offset I32
+GoodSegment h s = GoodMode (one_if h.spaces.has_memory) h s.memory s.offset
+
+abbrev pub put_data : Held → FlatSegment → Held
+put_data h s = put_offset h s.memory
+
+pub data_keeps : (P : Held → Type 0) → ((h : Held) → P h → P (with_const h None)) → (h : Held) (s : FlatSegment) → P h → P (put_data h s)
+data_keeps P f h s i = offset_keeps P f h s.memory i
 
 bytes_take : (bytes : List ℕ) (h : Held) → all_taken after h (map data_byte bytes) ≡ Ok h
 bytes_take [] h = refl
 bytes_take (b ∷ bytes) h = bytes_take bytes h
 
-segment_takes : (h : Held) (s : FlatSegment) → GoodSegment h s → all_taken after h (segment_items s) ≡ Ok (put_segment h s)
-segment_takes h s good =
-    head_takes (nat_lt s.memory (one_if h.spaces.has_memory)) h (map const_op s.offset ++ map data_byte s.bytes) (lt-ltb s.memory (one_if h.spaces.has_memory) good.0)
-    ∙ (ap (λ z. all_taken after (with_const h (Some (constant_expecting I32 (length h.spaces.globals)))) (map const_op z ++ map data_byte s.bytes)) good.1.1
-    ∙ (const_takes good.1.0 h I32 (length h.spaces.globals) (map data_byte s.bytes) good.1.2
-    ∙ bytes_take s.bytes (with_const h None)))
+abbrev data_items : Option ℕ → List Op → List ℕ → List Item
+data_items x ops bytes = segment_head x ∷ map const_op ops ++ map data_byte bytes
 
-segment_sound : (h g : Held) (s : FlatSegment) → IsExpression s.offset → all_taken after h (segment_items s) ≡ Ok g → GoodSegment h s
-segment_sound h g s i q =
-    let a = head_sound (nat_lt s.memory (one_if h.spaces.has_memory)) h g (map const_op s.offset ++ map data_byte s.bytes) q in
-    (ltb-true s.memory (one_if h.spaces.has_memory) a.0, const_sound s.offset (map data_byte s.bytes) I32 (length h.spaces.globals) h g i a.1)
+segment_takes : (h : Held) (x : Option ℕ) (ops : List Op) (bytes : List ℕ) → GoodMode (one_if h.spaces.has_memory) h x ops → all_taken after h (data_items x ops bytes) ≡ Ok (put_offset h x)
+segment_takes h None ops bytes good = ap (λ z. all_taken after h (map const_op z ++ map data_byte bytes)) good ∙ bytes_take bytes h
+segment_takes h (Some x) ops bytes good = active_takes (one_if h.spaces.has_memory) h x ops (map data_byte bytes) good ∙ bytes_take bytes (with_const h None)
 
-pub segment_member : Member after segment_items (Expresses (λ s. s.offset)) GoodSegment put_segment
-segment_member = record { takes = λ h s i good. segment_takes h s good; sound = λ h g s i q. segment_sound h g s i q }
+segment_sound : (h g : Held) (x : Option ℕ) (ops : List Op) (bytes : List ℕ) → IsOffset x ops → all_taken after h (data_items x ops bytes) ≡ Ok g
+    → GoodMode (one_if h.spaces.has_memory) h x ops
+segment_sound h g None ops bytes i q = i
+segment_sound h g (Some x) ops bytes i q = active_sound (one_if h.spaces.has_memory) h x ops (map data_byte bytes) g i q
+
+pub segment_member : Member after segment_items (HasOffset (λ s. s.memory) (λ s. s.offset)) GoodSegment put_data
+segment_member = record { takes = λ h s i good. segment_takes h s.memory s.offset s.bytes good; sound = λ h g s i q. segment_sound h g s.memory s.offset s.bytes i q }

@@ -1,6 +1,13 @@
 -- Items that need earlier ones: a type comes before a parameter or a result, and the start of a constant or a
 -- code entry comes before its ops.
 use Rattle.std.proofs.Common.{◌≡◌, ℕ, List, [], ◌∷◌, ◌++◌, Option, Some, None, refl, sym, ◌∙◌, ap, subst, map, inl, inr, ◌⊎◌, append_assoc, append-nil}
+use Rattle.std.proofs.Common.{Bool, true, false, zero, suc}
+use Rattle.wm_syntax.specs.Profiles.{has}
+use Rattle.wm_syntax.specs.declared.profile.Feature.TheVariants.{BulkMemory}
+use Rattle.wm_syntax.specs.Types.{SpellsU32}
+use Rattle.wm_machine.specs.declared.machine.member.SegmentKind.{SegmentKind}
+use Rattle.wm_machine.specs.declared.machine.member.SegmentKind.TheVariants as of_kind
+use Rattle.wm_machine.specs.Grammar.{KindedList, SegmentForm, SegmentList, SegmentRest, active_item, passive_item, segment_item}
 use Rattle.std.specs.List.{AllByRecursion}
 use Rattle.wm_syntax.specs.declared.profile.Profile.{Profile}
 use Rattle.wm_syntax.specs.declared.types.ValType.{ValType}
@@ -16,7 +23,7 @@ use Rattle.wm_machine.proofs.ReadValues.{HasByte, byte_some, front_some, number_
 use Rattle.wm_machine.proofs.EntryBytes.{run_part}
 use Rattle.wm_machine.proofs.GrammarValues.{op_some, reads_body}
 use Rattle.wm_rules.specs.Meanings.{InEntry}
-use Rattle.wm_rules.proofs.EveryRule.{Has, IsAlone, IsNamed, Leaves, PassesMembers, has_index, has_leaf, has_members, has_number, has_then, has_times, has_vector}
+use Rattle.wm_rules.proofs.EveryRule.{Has, IsAlone, IsNamed, Leaves, PassesMembers, has_byte, has_index, has_leaf, has_members, has_number, has_then, has_times, has_vector}
 
 -- the items that a constant is of
 abbrev pub IsOpening : Item → Type 0
@@ -334,8 +341,9 @@ global_comes p b k h =
     let some : HasByte h.front = front_some h.front g.0 g.1 g.2 (byte_some (type_byte v.0.ty) g.0 g.3) in
     subst Comes (sym (h.marks ∙ ap (λ z. z ++ h.back_marks) v.2)) (constant_comes p (global v.0) h.front tt some h.back h.back_marks h.second)
 
-segment_comes : (p : Profile) (opening : ℕ → Item) → ((n : ℕ) → IsOpening (opening n)) → {P : MarkedForm} → Has Comes P → Has Comes (Then (Index opening) (Then (Expression p const_op) P))
-segment_comes p opening a f b k h =
+-- the part of a segment behind a flag, from the index of its table or memory on
+indexed_comes : (p : Profile) (opening : ℕ → Item) → ((n : ℕ) → IsOpening (opening n)) → {P : MarkedForm} → Has Comes P → Has Comes (Then (Index opening) (Then (Expression p const_op) P))
+indexed_comes p opening a f b k h =
     let i = h.first in
     let j = h.second in
     let head : Marks = marks_ending (Some (opening i.n)) i.front in
@@ -343,6 +351,41 @@ segment_comes p opening a f b k h =
     let whole : k ≡ (head ++ j.front_marks) ++ j.back_marks = h.marks ∙ (ap (λ z. z ++ h.back_marks) begun ∙ (ap (λ z. head ++ z) j.marks ∙ sym (append_assoc head j.front_marks j.back_marks))) in
     subst Comes (sym whole)
     (comes_append (head ++ j.front_marks) j.back_marks (constant_comes p (opening i.n) i.front (a i.n) (number_some i.n i.front i.number) j.front j.front_marks j.first) (f j.back j.back_marks j.second))
+
+-- a segment, after the number at its front
+all_list : (of : SegmentKind) → Has Comes (SegmentList of)
+all_list of_kind.Element = has_vector comes_leaves (has_index comes_leaves element_function (λ n. tt))
+all_list of_kind.Data = has_vector comes_leaves (has_leaf comes_leaves _ data_byte (λ v. tt))
+
+all_kinded : (of : SegmentKind) → Has Comes (KindedList of)
+all_kinded of_kind.Element = has_then comes_leaves (has_byte comes_leaves 0x00 None tt) (all_list of_kind.Element)
+all_kinded of_kind.Data = all_list of_kind.Data
+
+opens : (of : SegmentKind) (n : ℕ) → IsOpening (active_item of n)
+opens of_kind.Element n = tt
+opens of_kind.Data n = tt
+
+passive_alone : (of : SegmentKind) → IsAlone (Some (passive_item of))
+passive_alone of_kind.Element = tt
+passive_alone of_kind.Data = tt
+
+active_comes : (p : Profile) (of : SegmentKind) (n : ℕ) (front back : List ℕ) (k : Marks) → SpellsU32 n front → Then (Expression p const_op) (SegmentList of) back k → Comes (marks_ending (Some (active_item of n)) front ++ k)
+active_comes p of n front back k u h =
+    let head : Marks = marks_ending (Some (active_item of n)) front in
+    subst Comes (append_assoc head h.front_marks h.back_marks ∙ ap (λ z. head ++ z) (sym h.marks))
+    (comes_append (head ++ h.front_marks) h.back_marks (constant_comes p (active_item of n) front (opens of n) (number_some n front u) h.front h.front_marks h.first) (all_list of h.back h.back_marks h.second))
+
+front_comes : (p : Profile) (flagged : Bool) (of : SegmentKind) (n : ℕ) (front back : List ℕ) (k : Marks) → SpellsU32 n front → SegmentRest p flagged of n back k → Comes (marks_ending (segment_item flagged of n) front ++ k)
+front_comes p false of n front back k u h = active_comes p of n front back k u h
+front_comes p true of zero front back k u h = active_comes p of 0 front back k u h
+front_comes p true of (suc zero) front back k u h =
+    comes_append (marks_ending (Some (passive_item of)) front) k (comes_leaves.plain (Some (passive_item of)) front (passive_alone of)) (all_kinded of back k h)
+front_comes p true of (suc (suc zero)) front back k u h =
+    comes_append (marks_ending None front) k (comes_leaves.plain None front tt) (indexed_comes p (active_item of) (opens of) (all_kinded of) back k h)
+front_comes p true of (suc (suc (suc n))) front back k u h = absurd h
+
+segment_comes : (p : Profile) (of : SegmentKind) → Has Comes (SegmentForm p of)
+segment_comes p of b k h = subst Comes (sym h.marks) (front_comes p (has p BulkMemory) of h.n h.front h.back h.back_marks h.number h.rest)
 
 code_comes : (demanded : Type 0) (p : Profile) → Has Comes (Code demanded p)
 code_comes demanded p b k h =
@@ -360,9 +403,9 @@ comes demanded p = record {
   named = λ x front text i n. name_comes x front text (λ y e. named_stood text y (subst (IsNamed text) e i));
   types = type_comes p;
   globals = global_comes p;
-  elements = segment_comes p element (λ n. tt) (has_vector comes_leaves (has_index comes_leaves element_function (λ n. tt)));
+  elements = segment_comes p of_kind.Element;
   codes = code_comes demanded p;
-  segments = segment_comes p segment (λ n. tt) (has_vector comes_leaves (has_leaf comes_leaves _ data_byte (λ v. tt)));
+  segments = segment_comes p of_kind.Data;
 }
 
 -- at the end of a front

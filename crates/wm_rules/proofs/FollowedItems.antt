@@ -1,5 +1,6 @@
 -- The builder takes every item that the checker takes.
 use Rattle.std.proofs.Common.{◌≡◌, ℕ, ◌+◌, Bool, true, false, cond, List, [], ◌∷◌, ◌++◌, Option, Some, None, Result, Ok, Err, length, refl, sym, ◌∙◌, ap, subst, inl, inr, is_some}
+use Rattle.wm_machine.specs.Items.{passive_element, passive_segment}
 use Rattle.std.specs.Str.{is_utf8}
 use Rattle.wm_syntax.specs.declared.types.ValType.{ValType}
 use Rattle.wm_syntax.specs.declared.types.ValType.TheVariants.{I32, I64, F32, F64}
@@ -23,12 +24,12 @@ use Rattle.wm_typing.specs.Typing.{function_type}
 use Rattle.wm_syntax.specs.declared.modules.ExportKind.TheVariants as kind
 use Rattle.wm_syntax.specs.inner.Building.{Place, at, labels, placed}
 use Rattle.wm_syntax.specs.inner.Building as places
-use Rattle.wm_machine.specs.Items.{Item, new_type, param, result_count, one_result, import_module, import_name, import_desc, function, table, memory, global, const_op, export_name, export, start, element, element_function, body, locals, body_op, segment, data_byte}
+use Rattle.wm_machine.specs.Items.{Item, new_type, param, result_count, one_result, import_module, import_name, import_desc, function, table, memory, global, const_op, export_name, export, start, element, element_function, data_count, body, locals, body_op, segment, data_byte}
 use Rattle.wm_machine.specs.Sinks.{and_then}
 use Rattle.wm_machine.proofs.Alike.{IsGiven}
 use Rattle.wm_rules.specs.declared.constants.Constant.{Constant}
 use Rattle.wm_rules.specs.exact.Constants.{constant_after, first_only, of_type, of_global, visible}
-use Rattle.wm_rules.specs.exact.Spaces.{context_of, next_type, function_added, global_added, import_added, memory_added, index_check, param_added, plain, result_added, table_added, type_begun}
+use Rattle.wm_rules.specs.exact.Spaces.{context_of, element_counted, next_type, function_added, global_added, import_added, memory_added, index_check, param_added, plain, result_added, segments_counted, table_added, type_begun}
 use Rattle.wm_rules.specs.Holding.{IndexSpaces}
 use Rattle.wm_rules.specs.exact.Checking as checking
 use Rattle.wm_rules.specs.Holding as holding
@@ -241,12 +242,15 @@ follows h b (const_op o) h' g a e = constant_follows h h' b o h.constant b.const
 follows h b (export_name text) h' g a e = (record b { exported = text }, named_ok text (λ name. record b { exported = name }) g, on_names h h' b (checking.names_with text h.names) e a)
 follows h b (export k x) h' g a e = (_, refl, on_same h h' b (index_check k x h.spaces) e a)
 follows h b (start x) h' g a e = (_, refl, on_same h h' b (plain (function_type (context_of h.spaces) x)) e a)
-follows h b (element x) h' g a e = (_, refl, offset_follows h h' b (purpose.Element x) (index_check kind.Table x h.spaces) (length h.spaces.globals) a.code e)
+follows h b (element x) h' g a e = (_, refl, offset_follows (checking.with_element h) h' b (purpose.Element x) (index_check kind.Table x h.spaces) (length h.spaces.globals) a.code e)
+follows h b passive_element h' g a e = (_, refl, on_spaces h h' b (Ok (element_counted h.spaces)) e a)
 follows h b (element_function x) h' g a e = (_, refl, on_same h h' b (index_check kind.Func x h.spaces) e a)
+follows h b (data_count n) h' g a e = (_, refl, on_spaces h h' b (Ok (segments_counted n h.spaces)) e a)
 follows h b body h' g a e = body_follows h h' b (next_type h.spaces) a.constant e
 follows h b (locals n t) h' g a e = locals_follow h h' b n t h.in_body b.code a.constant refl a.code e
 follows h b (body_op o) h' g a e = op_follows h h' b o h.in_body b.code a.constant refl a.code e
 follows h b (segment x) h' g a e = (_, refl, offset_follows h h' b (purpose.Segment x) (index_check kind.Memory x h.spaces) (length h.spaces.globals) a.code e)
+follows h b passive_segment h' g a e = (_, refl, let q : h ≡ h' = cc (e) in subst (λ y. Agrees y b) q a)
 follows h b (data_byte c) h' g a e = (_, refl, let q : h ≡ h' = cc (e) in subst (λ y. Agrees y b) q a)
 
 pub at_first : Agrees checking.empty_checker building.nothing

@@ -3,7 +3,6 @@ use Rattle.std.proofs.Common.{ℕ, ◌+◌, ◌≡◌, ◌≤◌, ◌<◌, List,
 use Rattle.std.specs.List.{AllByRecursion, filter_map, flat_map, AllZip}
 use Rattle.std.proofs.lemmas.List.{take-append-le}
 use Rattle.std.proofs.Math.Seq.{take-append_seam}
-use Rattle.wm_syntax.specs.declared.types.ValType.TheVariants.{I32}
 use Rattle.wm_syntax.specs.declared.types.GlobalType.{GlobalType}
 use Rattle.wm_syntax.specs.declared.modules.ExportKind.{ExportKind}
 use Rattle.wm_syntax.specs.declared.modules.ExportKind.TheVariants as kind
@@ -19,15 +18,15 @@ use Rattle.wm_syntax.specs.Modules.{locals_of}
 use Rattle.wm_machine.specs.Sinks.{all_taken}
 use Rattle.wm_rules.specs.Bounds.{deepest_nesting}
 use Rattle.wm_rules.specs.Validation.{TypedConst, is_some_item}
-use Rattle.wm_rules.specs.exact.Spaces.{context_of, items_in, next_type, one_if}
+use Rattle.wm_rules.specs.exact.Spaces.{context_of, element_counted, items_in, next_type, one_if}
 use Rattle.wm_rules.specs.Holding.{IndexSpaces, Held}
-use Rattle.wm_rules.specs.exact.Checking.{after, empty_checker}
+use Rattle.wm_rules.specs.exact.Checking.{after, empty_checker, with_element}
 use Rattle.wm_machine.specs.Flat.{FlatModule, FlatGlobal, FlatElement, FlatCode, FlatSegment, IsCodeOf, type_items, import_items, global_items, export_items, element_items, code_items, segment_items}
-use Rattle.wm_rules.proofs.GoodValues.{IsGrammatical, IsTypedConst, flat_functions, flat_tables, flat_memories, flat_globals, flat_context, flat_items, TypedCode, IsGood}
-use Rattle.wm_rules.proofs.Members.{parts_by_member, function_part, table_part, memory_part, start_part}
+use Rattle.wm_rules.proofs.GoodValues.{IsGoodMode, IsOffset, IsGrammatical, IsTypedConst, flat_functions, flat_tables, flat_memories, flat_globals, flat_context, flat_items, TypedCode, IsGood, given}
+use Rattle.wm_rules.proofs.Members.{parts_by_member, function_part, table_part, memory_part, start_part, count_part}
 use Rattle.wm_rules.proofs.MemberFolds.{puts, puts_keep, GoodAll, seq_takes, seq_sound, all_to, all_from}
-use Rattle.wm_rules.proofs.ItemMembers.{Any, in_types, no_type, put_sig, GoodSig, sig_member, put_import, GoodImport, import_member, put_function, GoodFunction, function_member, put_table, GoodTable, table_member, put_memory, GoodMemory, memory_member, put_export, GoodExport, export_member, GoodStart, start_member}
-use Rattle.wm_rules.proofs.ConstantMembers.{Expresses, put_global, GoodGlobal, global_member, put_segment, GoodElement, element_member, GoodSegment, segment_member}
+use Rattle.wm_rules.proofs.ItemMembers.{Any, in_types, no_type, put_sig, GoodSig, sig_member, put_import, GoodImport, import_member, put_function, GoodFunction, function_member, put_table, GoodTable, table_member, put_memory, GoodMemory, memory_member, put_export, GoodExport, export_member, GoodStart, start_member, put_count, count_member}
+use Rattle.wm_rules.proofs.ConstantMembers.{HasOffset, put_offset, put_data, data_keeps, Expresses, put_global, GoodGlobal, global_member, put_element, element_keeps, GoodElement, element_member, GoodSegment, segment_member}
 use Rattle.wm_rules.proofs.CodeMembers.{OneResults, CodeOf, put_code, IsCode, code_member, code_controls}
 use Rattle.wm_rules.proofs.NewNames.{New, distinct_new}
 use Rattle.wm_rules.proofs.ListFolds.{sigs, in_functions, functions, in_table, tables, in_memory, memories, tables_to, tables_from, memories_to, memories_from, after_imports, imports, GoodImports, imports_to, imports_from, in_globals, globals}
@@ -39,6 +38,11 @@ any_all put (x ∷ xs) h = (tt, any_all put xs (put h x))
 expresses_all : {X : Type 0} (ops : X → List Op) (put : Held → X → Held) (xs : List X) (h : Held) → AllByRecursion (λ x. IsExpression (ops x)) xs → GoodAll (Expresses ops) put h xs
 expresses_all ops put [] h q = tt
 expresses_all ops put (x ∷ xs) h q = (q.0, expresses_all ops put xs (put h x) q.1)
+
+offsets_all : {X : Type 0} (index : X → Option ℕ) (offset : X → List Op) (put : Held → X → Held) (xs : List X) (h : Held) → AllByRecursion (λ x. IsOffset (index x) (offset x)) xs
+    → GoodAll (HasOffset index offset) put h xs
+offsets_all index offset put [] h q = tt
+offsets_all index offset put (x ∷ xs) h q = (q.0, offsets_all index offset put xs (put h x) q.1)
 
 seam : {A : Type 0} (before : List A) (x : A) (xs : List A) → slice_get (before ++ x ∷ xs) (length before) ≡ Some x
 seam [] x xs = refl
@@ -68,6 +72,11 @@ count_from : {X : Type 0} (xs ys : List X) → length (xs ++ ys) ≤ 1 → (0 + 
 count_from [] ys h = (omega arith, omega (arith, h))
 count_from (x ∷ []) ys h = (omega arith, omega (arith, h))
 count_from (x ∷ y ∷ xs) ys h = absurd (omega (arith, h))
+
+-- an element segment, active or passive, adds one to their number
+counted_put : (h : Held) (x : Option ℕ) → (put_offset (with_element h) x).spaces ≡ element_counted h.spaces
+counted_put h None = refl
+counted_put h (Some x) = refl
 
 abbrev more_bodies : IndexSpaces → IndexSpaces
 more_bodies s = record s { bodies = s.bodies + 1 }
@@ -110,17 +119,20 @@ module _ (v : FlatModule) where
   after_start = puts (λ h x. h) after_exports (option_to_list v.start)
 
   abbrev pub after_elements : Held
-  after_elements = puts put_segment after_start v.elements
+  after_elements = puts put_element after_start v.elements
+
+  abbrev pub after_count : Held
+  after_count = puts put_count after_elements (option_to_list v.data_count)
 
   abbrev pub after_codes : Held
-  after_codes = puts put_code after_elements v.codes
+  after_codes = puts put_code after_count v.codes
 
   abbrev pub at_end : Held
-  at_end = puts put_segment after_codes v.segments
+  at_end = puts put_data after_codes v.segments
 
-  -- from the exports on the spaces stay, but for the number of bodies
+  -- from the exports on the spaces stay, but for the numbers of bodies and of element segments
   abbrev pub Full : Held → Type 0
-  Full h = record h.spaces { bodies = 0 } ≡ all_spaces
+  Full h = record h.spaces { bodies = 0; elements = 0 } ≡ all_spaces
 
   full_exports : Full after_exports
   full_exports = puts_keep put_export Full (λ h x i. i) v.exports after_globals refl
@@ -128,11 +140,44 @@ module _ (v : FlatModule) where
   full_start : Full after_start
   full_start = puts_keep (λ h x. h) Full (λ h x i. i) (option_to_list v.start) after_exports full_exports
 
-  full_elements : Full after_elements
-  full_elements = puts_keep put_segment Full (λ h x i. i) v.elements after_start full_start
+  abbrev Stays : Held → Type 0
+  Stays h = h.spaces ≡ all_spaces
 
-  full_codes : Full after_codes
-  full_codes = puts_keep put_code Full (λ h x i. i) v.codes after_elements full_elements
+  spaces_before_elements : Stays after_start
+  spaces_before_elements =
+      puts_keep (λ h x. h) Stays (λ h x i. i) (option_to_list v.start) after_exports
+      (puts_keep put_export Stays (λ h x i. i) v.exports after_globals refl)
+
+  -- each element segment is counted
+  abbrev WithElements : ℕ → IndexSpaces
+  WithElements n = record all_spaces { elements = n }
+
+  elements_counted : (es : List FlatElement) (h : Held) (n : ℕ) → h.spaces ≡ WithElements n → (puts put_element h es).spaces ≡ WithElements (n + length es)
+  elements_counted [] h n e = let q : n ≡ n + 0 = omega arith in e ∙ ap WithElements q
+  elements_counted (x ∷ es) h n e =
+      let q : (n + 1) + length es ≡ n + length (x ∷ es) = omega arith in
+      elements_counted es (put_element h x) (n + 1) (counted_put h x.table ∙ ap element_counted e) ∙ ap WithElements q
+
+  spaces_before_count : after_elements.spaces ≡ WithElements (length v.elements)
+  spaces_before_count = let q : 0 + length v.elements ≡ length v.elements = omega arith in elements_counted v.elements after_start 0 spaces_before_elements ∙ ap WithElements q
+
+  -- the data count section gives the number of data segments
+  abbrev counted_spaces : IndexSpaces
+  counted_spaces = record all_spaces { elements = length v.elements; segments = given v.data_count }
+
+  spaces_before_code : after_count.spaces ≡ counted_spaces
+  spaces_before_code = go v.data_count
+    where
+      go : (x : Option ℕ) → (puts put_count after_elements (option_to_list x)).spaces ≡ record all_spaces { elements = length v.elements; segments = given x }
+      go None = spaces_before_count
+      go (Some n) = ap (λ (s : IndexSpaces). record s { segments = n }) spaces_before_count
+
+  -- from there on they stay, but for the number of bodies
+  abbrev FullCounted : Held → Type 0
+  FullCounted h = record h.spaces { bodies = 0 } ≡ counted_spaces
+
+  full_codes : FullCounted after_codes
+  full_codes = puts_keep put_code FullCounted (λ h x i. i) v.codes after_count (ap (λ (s : IndexSpaces). record s { bodies = 0 }) spaces_before_code)
 
   abbrev Types : Held → Type 0
   Types h = h.spaces.types ≡ v.types
@@ -188,7 +233,7 @@ module _ (v : FlatModule) where
   index_same : (h : Held) → Full h → length (flat_tables v) ≤ 1 → length (flat_memories v) ≤ 1 → (k : ExportKind) → items_in k h.spaces ≡ flat_items v k
   index_same h i t m k = spaces k h.spaces ∙ (ap (items_in k) i ∙ items_same t m k)
     where
-      spaces : (k : ExportKind) (s : IndexSpaces) → items_in k s ≡ items_in k (record s { bodies = 0 })
+      spaces : (k : ExportKind) (s : IndexSpaces) → items_in k s ≡ items_in k (record s { bodies = 0; elements = 0 })
       spaces kind.Func s = refl
       spaces kind.Table s = refl
       spaces kind.Memory s = refl
@@ -223,48 +268,55 @@ module _ (v : FlatModule) where
 
   -- segments
   abbrev GoodElementIn : IndexSpaces → FlatElement → Type 0
-  GoodElementIn s e = (e.table < one_if s.has_table) × IsTypedConst (take (length s.globals) s.globals) e.offset I32 × AllByRecursion (λ x. x < length s.functions) e.functions
+  GoodElementIn s e = IsGoodMode (one_if s.has_table) (take (length s.globals) s.globals) e.table e.offset × AllByRecursion (λ x. x < length s.functions) e.functions
 
   abbrev GoodFlatElement : FlatElement → Type 0
-  GoodFlatElement e = (e.table < length (flat_tables v)) × IsTypedConst (flat_globals v) e.offset I32 × AllByRecursion (λ x. x < length (flat_functions v)) e.functions
+  GoodFlatElement e = IsGoodMode (length (flat_tables v)) (flat_globals v) e.table e.offset × AllByRecursion (λ x. x < length (flat_functions v)) e.functions
+
+  -- a mode in the words of the spaces and in those of the flat value, for `n` tables or memories
+  mode_to : (k n : ℕ) (x : Option ℕ) (ops : List Op) → k ≡ n → IsGoodMode k (take (length (flat_globals v)) (flat_globals v)) x ops → IsGoodMode n (flat_globals v) x ops
+  mode_to k n x ops e g = subst (λ z. IsGoodMode n z x ops) (take_all (flat_globals v)) (subst (λ z. IsGoodMode z (take (length (flat_globals v)) (flat_globals v)) x ops) e g)
+
+  mode_from : (k n : ℕ) (x : Option ℕ) (ops : List Op) → k ≡ n → IsGoodMode n (flat_globals v) x ops → IsGoodMode k (take (length (flat_globals v)) (flat_globals v)) x ops
+  mode_from k n x ops e g = subst (λ z. IsGoodMode z (take (length (flat_globals v)) (flat_globals v)) x ops) (sym e) (subst (λ z. IsGoodMode n z x ops) (sym (take_all (flat_globals v))) g)
 
   element_same : length (flat_tables v) ≤ 1 → (h : Held) (e : FlatElement) → Full h → GoodElement h e ↔ GoodFlatElement e
   element_same t h e i = (
     (λ g. let d : GoodElementIn all_spaces e = subst (λ s. GoodElementIn s e) i g in
-        (subst (λ n. e.table < n) (some_count (flat_tables v) t) d.0, subst (λ z. IsTypedConst z e.offset I32) (take_all (flat_globals v)) d.1, d.2)),
-    (λ g. let d : GoodElementIn all_spaces e = (subst (λ n. e.table < n) (sym (some_count (flat_tables v) t)) g.0, subst (λ z. IsTypedConst z e.offset I32) (sym (take_all (flat_globals v))) g.1, g.2) in
+        (mode_to (one_if (is_some_item (flat_tables v))) (length (flat_tables v)) e.table e.offset (some_count (flat_tables v) t) d.0, d.1)),
+    (λ g. let d : GoodElementIn all_spaces e = (mode_from (one_if (is_some_item (flat_tables v))) (length (flat_tables v)) e.table e.offset (some_count (flat_tables v) t) g.0, g.1) in
         subst (λ s. GoodElementIn s e) (sym i) d),
   )
 
-  elements_iff : length (flat_tables v) ≤ 1 → GoodAll GoodElement put_segment after_start v.elements ↔ AllByRecursion GoodFlatElement v.elements
+  elements_iff : length (flat_tables v) ≤ 1 → GoodAll GoodElement put_element after_start v.elements ↔ AllByRecursion GoodFlatElement v.elements
   elements_iff t = (
-    all_to GoodElement put_segment GoodFlatElement Full (λ h x i. i) (element_same t) v.elements after_start full_start,
-    all_from GoodElement put_segment GoodFlatElement Full (λ h x i. i) (element_same t) v.elements after_start full_start,
+    all_to GoodElement put_element GoodFlatElement Full (element_keeps Full (λ h i. i) (λ h i. i)) (element_same t) v.elements after_start full_start,
+    all_from GoodElement put_element GoodFlatElement Full (element_keeps Full (λ h i. i) (λ h i. i)) (element_same t) v.elements after_start full_start,
   )
 
   abbrev GoodSegmentIn : IndexSpaces → FlatSegment → Type 0
-  GoodSegmentIn s e = (e.memory < one_if s.has_memory) × IsTypedConst (take (length s.globals) s.globals) e.offset I32
+  GoodSegmentIn s e = IsGoodMode (one_if s.has_memory) (take (length s.globals) s.globals) e.memory e.offset
 
   abbrev GoodFlatSegment : FlatSegment → Type 0
-  GoodFlatSegment s = (s.memory < length (flat_memories v)) × IsTypedConst (flat_globals v) s.offset I32
+  GoodFlatSegment s = IsGoodMode (length (flat_memories v)) (flat_globals v) s.memory s.offset
 
-  segment_same : length (flat_memories v) ≤ 1 → (h : Held) (e : FlatSegment) → Full h → GoodSegment h e ↔ GoodFlatSegment e
+  segment_same : length (flat_memories v) ≤ 1 → (h : Held) (e : FlatSegment) → FullCounted h → GoodSegment h e ↔ GoodFlatSegment e
   segment_same m h e i = (
     (λ g. let d : GoodSegmentIn all_spaces e = subst (λ s. GoodSegmentIn s e) i g in
-        (subst (λ n. e.memory < n) (some_count (flat_memories v) m) d.0, subst (λ z. IsTypedConst z e.offset I32) (take_all (flat_globals v)) d.1)),
-    (λ g. let d : GoodSegmentIn all_spaces e = (subst (λ n. e.memory < n) (sym (some_count (flat_memories v) m)) g.0, subst (λ z. IsTypedConst z e.offset I32) (sym (take_all (flat_globals v))) g.1) in
+        mode_to (one_if (is_some_item (flat_memories v))) (length (flat_memories v)) e.memory e.offset (some_count (flat_memories v) m) d),
+    (λ g. let d : GoodSegmentIn all_spaces e = mode_from (one_if (is_some_item (flat_memories v))) (length (flat_memories v)) e.memory e.offset (some_count (flat_memories v) m) g in
         subst (λ s. GoodSegmentIn s e) (sym i) d),
   )
 
-  segments_iff : length (flat_memories v) ≤ 1 → GoodAll GoodSegment put_segment after_codes v.segments ↔ AllByRecursion GoodFlatSegment v.segments
+  segments_iff : length (flat_memories v) ≤ 1 → GoodAll GoodSegment put_data after_codes v.segments ↔ AllByRecursion GoodFlatSegment v.segments
   segments_iff m = (
-    all_to GoodSegment put_segment GoodFlatSegment Full (λ h x i. i) (segment_same m) v.segments after_codes full_codes,
-    all_from GoodSegment put_segment GoodFlatSegment Full (λ h x i. i) (segment_same m) v.segments after_codes full_codes,
+    all_to GoodSegment put_data GoodFlatSegment FullCounted (data_keeps FullCounted (λ h i. i)) (segment_same m) v.segments after_codes full_codes,
+    all_from GoodSegment put_data GoodFlatSegment FullCounted (data_keeps FullCounted (λ h i. i)) (segment_same m) v.segments after_codes full_codes,
   )
 
   -- the code entries are those of the functions, one by one
   abbrev With : ℕ → IndexSpaces
-  With n = record all_spaces { bodies = n }
+  With n = record counted_spaces { bodies = n }
 
   codes_to : (cs : List FlatCode) (before xs : List ℕ) (h : Held) (n : ℕ) → h.spaces ≡ With n → flat_functions v ≡ before ++ xs → length before ≡ all_spaces.imported_functions + n → length xs ≡ length cs
       → GoodAll CodeOf put_code h cs → AllZip (TypedCode (flat_context v)) xs cs
@@ -291,23 +343,14 @@ module _ (v : FlatModule) where
         codes_from cs (before ++ x ∷ []) xs (put_code h c) (n + 1) (ap more_bodies e) (f ∙ sym (append_assoc before (x ∷ []) xs)) (omega (arith, l, length-append before (x ∷ []))) g.1,
       )
 
-  abbrev Stays : Held → Type 0
-  Stays h = h.spaces ≡ all_spaces
-
-  spaces_before_code : Stays after_elements
-  spaces_before_code =
-      puts_keep put_segment Stays (λ h x i. i) v.elements after_start
-      (puts_keep (λ h x. h) Stays (λ h x i. i) (option_to_list v.start) after_exports
-      (puts_keep put_export Stays (λ h x i. i) v.exports after_globals refl))
-
   counted_codes : (cs : List FlatCode) (h : Held) (n : ℕ) → h.spaces.bodies ≡ n → (puts put_code h cs).spaces.bodies ≡ n + length cs
   counted_codes [] h n e = omega (arith, e)
   counted_codes (c ∷ cs) h n e = let r = counted_codes cs (put_code h c) (n + 1) (omega (arith, e)) in omega (arith, r)
 
   -- each code entry is counted
   pub bodies_at_end : at_end.spaces.bodies ≡ length v.codes
-  bodies_at_end = puts_keep put_segment (λ h. h.spaces.bodies ≡ length v.codes) (λ h x i. i) v.segments after_codes
-      (let e = counted_codes v.codes after_elements 0 (ap (λ s. s.bodies) spaces_before_code) in omega (arith, e))
+  bodies_at_end = puts_keep put_data (λ h. h.spaces.bodies ≡ length v.codes) (data_keeps (λ h. h.spaces.bodies ≡ length v.codes) (λ h i. i)) v.segments after_codes
+      (let e = counted_codes v.codes after_count 0 (ap (λ s. s.bodies) spaces_before_code) in omega (arith, e))
 
   counted : length (filter_map imported_function v.imports) ≡ all_spaces.imported_functions + 0
   counted = omega arith
@@ -320,30 +363,31 @@ module _ (v : FlatModule) where
   codes_controls (f ∷ fs) [] h one g r = absurd r
   codes_controls (f ∷ fs) (c ∷ cs) h one g r = omega (arith, codes_controls fs cs (put_code h c) one g.1 r.1, code_controls h f c one g.0 r.0)
 
-  no_stats_before_code : after_elements.most ≡ no_stats
+  no_stats_before_code : after_count.most ≡ no_stats
   no_stats_before_code =
-      puts_keep put_segment (λ h. h.most ≡ no_stats) (λ h x i. i) v.elements after_start
+      puts_keep put_count (λ h. h.most ≡ no_stats) (λ h x i. i) (option_to_list v.data_count) after_elements
+      (puts_keep put_element (λ h. h.most ≡ no_stats) (element_keeps (λ h. h.most ≡ no_stats) (λ h i. i) (λ h i. i)) v.elements after_start
       (puts_keep (λ h x. h) (λ h. h.most ≡ no_stats) (λ h x i. i) (option_to_list v.start) after_exports
-      (puts_keep put_export (λ h. h.most ≡ no_stats) (λ h x i. i) v.exports after_globals refl))
+      (puts_keep put_export (λ h. h.most ≡ no_stats) (λ h x i. i) v.exports after_globals refl)))
 
   -- the greatest controls are those of the deepest body
   pub controls_at_end : (fs : List Function) → IsGood v → AllZip IsCodeOf fs v.codes → at_end.most.controls ≡ deepest_nesting fs
   controls_at_end fs d r =
-      let one : OneResults after_elements = subst (λ s. AllByRecursion (λ f. length f.results ≤ 1) s.types) (sym spaces_before_code) d.types in
-      let g = codes_from v.codes (filter_map imported_function v.imports) v.functions after_elements 0 spaces_before_code refl counted d.codes in
-      let e = codes_controls fs v.codes after_elements one g r in
-      let n : after_elements.most.controls ≡ 0 = ap (λ s. s.controls) no_stats_before_code in
-      puts_keep put_segment (λ h. h.most.controls ≡ deepest_nesting fs) (λ h x i. i) v.segments after_codes (omega (arith, e, n))
+      let one : OneResults after_count = subst (λ s. AllByRecursion (λ f. length f.results ≤ 1) s.types) (sym spaces_before_code) d.types in
+      let g = codes_from v.codes (filter_map imported_function v.imports) v.functions after_count 0 spaces_before_code refl counted d.codes in
+      let e = codes_controls fs v.codes after_count one g r in
+      let n : after_count.most.controls ≡ 0 = ap (λ s. s.controls) no_stats_before_code in
+      puts_keep put_data (λ h. h.most.controls ≡ deepest_nesting fs) (data_keeps (λ h. h.most.controls ≡ deepest_nesting fs) (λ h i. i)) v.segments after_codes (omega (arith, e, n))
 
   -- without code entries there are no figures
   pub nothing_at_end : v.codes ≡ [] → at_end.most ≡ no_stats
   nothing_at_end e =
-      puts_keep put_segment (λ h. h.most ≡ no_stats) (λ h x i. i) v.segments after_codes
-      (ap (λ cs. (puts put_code after_elements cs).most) e ∙ no_stats_before_code)
+      puts_keep put_data (λ h. h.most ≡ no_stats) (data_keeps (λ h. h.most ≡ no_stats) (λ h i. i)) v.segments after_codes
+      (ap (λ cs. (puts put_code after_count cs).most) e ∙ no_stats_before_code)
 
   -- what a code entry is asked for before its items
-  codes_asked : AllByRecursion (λ s. length s.results ≤ 1) v.types → AllByRecursion (λ c. IsExpression c.ops) v.codes → GoodAll IsCode put_code after_elements v.codes
-  codes_asked one q = all_from IsCode put_code (λ c. IsExpression c.ops) Types (λ h x i. i) same v.codes after_elements (ap (λ s. s.types) spaces_before_code) q
+  codes_asked : AllByRecursion (λ s. length s.results ≤ 1) v.types → AllByRecursion (λ c. IsExpression c.ops) v.codes → GoodAll IsCode put_code after_count v.codes
+  codes_asked one q = all_from IsCode put_code (λ c. IsExpression c.ops) Types (λ h x i. i) same v.codes after_count (ap (λ s. s.types) spaces_before_code) q
     where
       same : (h : Held) (c : FlatCode) → h.spaces.types ≡ v.types → IsCode h c ↔ IsExpression c.ops
       same h c i = ((λ g. g.1), (λ g. (subst (λ ts. AllByRecursion (λ f. length f.results ≤ 1) ts) (sym i) one, g)))
@@ -354,8 +398,11 @@ module _ (v : FlatModule) where
   abbrev codes_left : List Item
   codes_left = flat_map code_items v.codes ++ segments_left
 
+  abbrev count_left : List Item
+  count_left = flat_map count_part (option_to_list v.data_count) ++ codes_left
+
   abbrev elements_left : List Item
-  elements_left = flat_map element_items v.elements ++ codes_left
+  elements_left = flat_map element_items v.elements ++ count_left
 
   abbrev start_left : List Item
   start_left = flat_map start_part (option_to_list v.start) ++ elements_left
@@ -401,11 +448,12 @@ module _ (v : FlatModule) where
       let t6 = on (puts put_global before_globals v.globals) after_globals exports_left g (globals v.globals before_globals refl) a6.1 in
       let a7 = seq_sound after export_items Any GoodExport put_export export_member v.exports start_left after_globals g (any_all put_export v.exports after_globals) t6 in
       let a8 = seq_sound after start_part Any GoodStart (λ h x. h) start_member (option_to_list v.start) elements_left after_exports g (any_all (λ h x. h) (option_to_list v.start) after_exports) a7.1 in
-      let a9 = seq_sound after element_items (Expresses (λ e. e.offset)) GoodElement put_segment element_member v.elements codes_left after_start g (expresses_all (λ e. e.offset) put_segment v.elements after_start q.elements) a8.1 in
+      let a9 = seq_sound after element_items (HasOffset (λ e. e.table) (λ e. e.offset)) GoodElement put_element element_member v.elements count_left after_start g (offsets_all (λ e. e.table) (λ e. e.offset) put_element v.elements after_start q.elements) a8.1 in
+      let b9 = seq_sound after count_part Any Any put_count count_member (option_to_list v.data_count) codes_left after_elements g (any_all put_count (option_to_list v.data_count) after_elements) a9.1 in
       let types = types_iff.0 a1.0 in
-      let a10 = seq_sound after code_items IsCode CodeOf put_code code_member v.codes segments_left after_elements g (codes_asked types q.codes) a9.1 in
+      let a10 = seq_sound after code_items IsCode CodeOf put_code code_member v.codes segments_left after_count g (codes_asked types q.codes) b9.1 in
       let t10 = ap (λ z. all_taken after after_codes z) (append-nil segments_left) ∙ a10.1 in
-      let a11 = seq_sound after segment_items (Expresses (λ s. s.offset)) GoodSegment put_segment segment_member v.segments [] after_codes g (expresses_all (λ s. s.offset) put_segment v.segments after_codes q.segments) t10 in
+      let a11 = seq_sound after segment_items (HasOffset (λ s. s.memory) (λ s. s.offset)) GoodSegment put_data segment_member v.segments [] after_codes g (offsets_all (λ s. s.memory) (λ s. s.offset) put_data v.segments after_codes q.segments) t10 in
       let i = imports_to v.imports after_types a2.0 in
       let ts = tables_to v.tables after_functions a4.0 in
       let ms = memories_to v.memories after_tables a5.0 in
@@ -425,7 +473,7 @@ module _ (v : FlatModule) where
         names = (distinct_new (map (λ e. e.name) v.exports)).0 x.1;
         start = start_iff.0 a8.0;
         elements = (elements_iff one_table).0 a9.0;
-        codes = codes_to v.codes (filter_map imported_function v.imports) v.functions after_elements 0 spaces_before_code refl counted q.paired a10.0;
+        codes = codes_to v.codes (filter_map imported_function v.imports) v.functions after_count 0 spaces_before_code refl counted q.paired a10.0;
         segments = (segments_iff one_memory).0 a11.0;
       }
 
@@ -435,10 +483,12 @@ module _ (v : FlatModule) where
       let ms = count_from (filter_map imported_memory v.imports) v.memories d.one_memory in
       let i : GoodImports after_types v.imports = record { each = d.imports; tables = ts.0; memories = ms.0 } in
       let t10 : Takes after_codes segments_left at_end = sym (ap (λ z. all_taken after after_codes z) (append-nil segments_left))
-      ∙ seq_takes after segment_items (Expresses (λ s. s.offset)) GoodSegment put_segment segment_member v.segments [] after_codes at_end (expresses_all (λ s. s.offset) put_segment v.segments after_codes q.segments) ((segments_iff d.one_memory).1 d.segments) refl in
-      let t9 : Takes after_elements codes_left at_end = seq_takes after code_items IsCode CodeOf put_code code_member v.codes segments_left after_elements at_end (codes_asked d.types q.codes)
-      (codes_from v.codes (filter_map imported_function v.imports) v.functions after_elements 0 spaces_before_code refl counted d.codes) t10 in
-      let t8 : Takes after_start elements_left at_end = seq_takes after element_items (Expresses (λ e. e.offset)) GoodElement put_segment element_member v.elements codes_left after_start at_end (expresses_all (λ e. e.offset) put_segment v.elements after_start q.elements) ((elements_iff d.one_table).1 d.elements) t9 in
+      ∙ seq_takes after segment_items (HasOffset (λ s. s.memory) (λ s. s.offset)) GoodSegment put_data segment_member v.segments [] after_codes at_end (offsets_all (λ s. s.memory) (λ s. s.offset) put_data v.segments after_codes q.segments) ((segments_iff d.one_memory).1 d.segments) refl in
+      let u9 : Takes after_count codes_left at_end = seq_takes after code_items IsCode CodeOf put_code code_member v.codes segments_left after_count at_end (codes_asked d.types q.codes)
+      (codes_from v.codes (filter_map imported_function v.imports) v.functions after_count 0 spaces_before_code refl counted d.codes) t10 in
+      let t9 : Takes after_elements count_left at_end = seq_takes after count_part Any Any put_count count_member (option_to_list v.data_count) codes_left after_elements at_end
+      (any_all put_count (option_to_list v.data_count) after_elements) (any_all put_count (option_to_list v.data_count) after_elements) u9 in
+      let t8 : Takes after_start elements_left at_end = seq_takes after element_items (HasOffset (λ e. e.table) (λ e. e.offset)) GoodElement put_element element_member v.elements count_left after_start at_end (offsets_all (λ e. e.table) (λ e. e.offset) put_element v.elements after_start q.elements) ((elements_iff d.one_table).1 d.elements) t9 in
       let t7 : Takes after_exports start_left at_end = seq_takes after start_part Any GoodStart (λ h x. h) start_member (option_to_list v.start) elements_left after_exports at_end (any_all (λ h x. h) (option_to_list v.start) after_exports) (start_iff.1 d.start) t8 in
       let t6 : Takes after_globals exports_left at_end = seq_takes after export_items Any GoodExport put_export export_member v.exports start_left after_globals at_end (any_all put_export v.exports after_globals)
       (exports_from d.one_table d.one_memory v.exports after_globals refl d.exports ((distinct_new (map (λ e. e.name) v.exports)).1 d.names)) t7 in

@@ -1,16 +1,23 @@
 -- A flat value is good if and only if it is that of a valid module.
-use Rattle.std.proofs.Common.{ℕ, ◌≡◌, ◌≤◌, ◌<◌, ◌^◌, List, [], ◌∷◌, ◌++◌, Some, IfSome, length, refl, sym, ◌∙◌, ap, subst, map, slice_get, option_to_list}
+use Rattle.std.proofs.Common.{ℕ, ◌≡◌, ◌≤◌, ◌<◌, ◌^◌, List, [], ◌∷◌, ◌++◌, Option, Some, IfSome, length, refl, sym, ◌∙◌, ap, subst, map, slice_get, option_to_list, None}
+use Rattle.wm_rules.proofs.GoodValues.{IsGoodMode}
+use Rattle.wm_rules.specs.Validation.{ValidMode}
+use Rattle.wm_machine.specs.Flat.{offset_ops}
+use Rattle.wm_syntax.specs.Modules.{index_of}
+use Rattle.wm_syntax.specs.declared.modules.SegmentMode.TheVariants.{Passive, Active}
+use Rattle.wm_syntax.specs.declared.modules.SegmentMode.{SegmentMode}
 use Rattle.std.specs.List.{AllByRecursion, filter_map, AllZip}
+use Rattle.std.specs.Prelude.{IsFalse}
 use Rattle.std.proofs.lemmas.List.{append_cancel_right}
+use Rattle.std.proofs.lemmas.Slice.Zip.{AllZip-long}
 use Rattle.std.proofs.lemmas.Option.{slice_get_within}
-use Rattle.wm_syntax.specs.declared.types.ValType.TheVariants.{I32}
 use Rattle.wm_syntax.specs.declared.types.GlobalType.{GlobalType}
 use Rattle.wm_syntax.specs.declared.instructions.Op.{Op}
 use Rattle.wm_syntax.specs.declared.instructions.Op.TheVariants as op
 use Rattle.wm_syntax.specs.Instructions.{Instructions, HasOps}
 use Rattle.wm_syntax.specs.Spelling.{Exactly, ◌▸◌}
 use Rattle.wm_syntax.specs.Types.{Signature}
-use Rattle.wm_syntax.specs.Modules.{Module, Function, GlobalDef, Element, Segment, imported_function, imported_global, all_functions, all_globals, all_tables, all_memories}
+use Rattle.wm_syntax.specs.Modules.{Module, Function, GlobalDef, Element, Segment, bodies_name_segment, imported_function, imported_global, all_functions, all_globals, all_tables, all_memories}
 use Rattle.wm_syntax.specs.declared.modules.ExportKind.{ExportKind}
 use Rattle.wm_syntax.specs.declared.modules.ExportKind.TheVariants as kind
 use Rattle.wm_syntax.proofs.Bodies.{same_instructions}
@@ -20,16 +27,13 @@ use Rattle.wm_typing.specs.Typing.{Context, Typed, function_type}
 use Rattle.wm_syntax.specs.Modules.{locals_of}
 use Rattle.wm_rules.specs.Validation.{TypedConst, Valid, is_some_item, items_of, module_context}
 use Rattle.wm_machine.specs.Flat.{FlatModule, FlatGlobal, FlatElement, FlatCode, FlatSegment, IsFlatOf, IsIndexOf, IsCodeOf, IsGlobalOf, IsElementOf, IsSegmentOf}
-use Rattle.wm_rules.proofs.GoodValues.{IsTypedConst, TypedCode, IsGood, flat_context, flat_functions, flat_globals, flat_tables, flat_memories, flat_items}
+use Rattle.wm_rules.proofs.GoodValues.{IsTypedConst, TypedCode, IsGood, flat_context, flat_functions, flat_globals, flat_tables, flat_memories, flat_items, given}
 use Rattle.wm_rules.proofs.ItemMembers.{no_type}
+use Rattle.wm_rules.proofs.SegmentNames.{TypedFunction, counting, functions_none, functions_recounted}
 use Rattle.wm_rules.proofs.Pairwise.{all_get, one_item, pairs_from, pairs_to, some_at}
 
 abbrev OneEach : Context → Type 0
 OneEach c = AllByRecursion (λ f. length f.results ≤ 1) c.types
-
--- a function whose body has its type
-abbrev TypedFunction : Context → Function → Type 0
-TypedFunction c f = (sig : Signature) × (slice_get c.types f.type_index ≡ Some sig) × Typed (body_context c f.type_index f.locals) f.body [] sig.results
 
 result_is : (c : Context) (x : ℕ) (sig : Signature) → OneEach c → slice_get c.types x ≡ Some sig → option_to_list (result_of c x) ≡ sig.results
 result_is c x sig one has =
@@ -87,29 +91,42 @@ globals_made seen [] h = ([], tt, tt)
 globals_made seen (g ∷ gs) h = let r = globals_made seen gs h.1 in
     (record { ty = g.ty; init = h.0.0 } ∷ r.0, ((refl, h.0.1), r.1), (h.0.2, r.2))
 
+-- the mode of a segment with this index and these ops of an offset
+mode_made : (m : ℕ) (seen : List GlobalType) (x : Option ℕ) (ops : List Op) → IsGoodMode m seen x ops → (d : SegmentMode) × (x ≡ index_of d) × (ops ≡ offset_ops d) × ValidMode m seen d
+mode_made m seen None ops h = (Passive, refl, h, tt)
+mode_made m seen (Some x) ops h = (Active x h.1.0, refl, h.1.1, (h.0, h.1.2))
+
+mode_back : (m : ℕ) (seen : List GlobalType) (d : SegmentMode) (x : Option ℕ) (ops : List Op) → x ≡ index_of d → ops ≡ offset_ops d → ValidMode m seen d → IsGoodMode m seen x ops
+mode_back m seen Passive x ops e o h = subst (λ y. IsGoodMode m seen y ops) (sym e) o
+mode_back m seen (Active y c) x ops e o h = subst (λ y. IsGoodMode m seen y ops) (sym e) (h.0, (c, o, h.1))
+
 abbrev GoodElement : ℕ → List GlobalType → ℕ → FlatElement → Type 0
-GoodElement t seen n e = (e.table < t) × IsTypedConst seen e.offset I32 × AllByRecursion (λ x. x < n) e.functions
+GoodElement t seen n e = IsGoodMode t seen e.table e.offset × AllByRecursion (λ x. x < n) e.functions
 
 abbrev ElementIn : ℕ → List GlobalType → ℕ → Element → Type 0
-ElementIn t seen n e = (e.table < t) × TypedConst seen e.offset I32 × AllByRecursion (λ x. x < n) e.functions
+ElementIn t seen n e = ValidMode t seen e.mode × AllByRecursion (λ x. x < n) e.functions
 
 elements_made : (t : ℕ) (seen : List GlobalType) (n : ℕ) (es : List FlatElement) → AllByRecursion (GoodElement t seen n) es
     → (ds : List Element) × AllZip IsElementOf ds es × AllByRecursion (ElementIn t seen n) ds
 elements_made t seen n [] h = ([], tt, tt)
-elements_made t seen n (e ∷ es) h = let r = elements_made t seen n es h.1 in
-    (record { table = e.table; offset = h.0.1.0; functions = e.functions } ∷ r.0, ((refl, h.0.1.1, refl), r.1), ((h.0.0, h.0.1.2, h.0.2), r.2))
+elements_made t seen n (e ∷ es) h =
+    let r = elements_made t seen n es h.1 in
+    let d = mode_made t seen e.table e.offset h.0.0 in
+    (record { mode = d.0; functions = e.functions } ∷ r.0, ((d.1, d.2, refl), r.1), ((d.3, h.0.1), r.2))
 
 abbrev GoodSegment : ℕ → List GlobalType → FlatSegment → Type 0
-GoodSegment m seen s = (s.memory < m) × IsTypedConst seen s.offset I32
+GoodSegment m seen s = IsGoodMode m seen s.memory s.offset
 
 abbrev SegmentIn : ℕ → List GlobalType → Segment → Type 0
-SegmentIn m seen s = (s.memory < m) × TypedConst seen s.offset I32
+SegmentIn m seen s = ValidMode m seen s.mode
 
 segments_made : (m : ℕ) (seen : List GlobalType) (ss : List FlatSegment) → AllByRecursion (GoodSegment m seen) ss
     → (ds : List Segment) × AllZip IsSegmentOf ds ss × AllByRecursion (SegmentIn m seen) ds
 segments_made m seen [] h = ([], tt, tt)
-segments_made m seen (s ∷ ss) h = let r = segments_made m seen ss h.1 in
-    (record { memory = s.memory; offset = h.0.1.0; bytes = s.bytes } ∷ r.0, ((refl, h.0.1.1, refl), r.1), ((h.0.0, h.0.1.2), r.2))
+segments_made m seen (s ∷ ss) h =
+    let r = segments_made m seen ss h.1 in
+    let d = mode_made m seen s.memory s.offset h.0 in
+    (record { mode = d.0; bytes = s.bytes } ∷ r.0, ((d.1, d.2, refl), r.1), (d.3, r.2))
 
 -- from members to flat members
 functions_back : (c : Context) → OneEach c → (fs : List Function) (xs : List ℕ) (cs : List FlatCode) → AllZip IsIndexOf fs xs → AllZip IsCodeOf fs cs → AllByRecursion (TypedFunction c) fs
@@ -140,13 +157,13 @@ elements_back t seen n [] [] r h = tt
 elements_back t seen n [] (e ∷ es) r h = absurd r
 elements_back t seen n (d ∷ ds) [] r h = absurd r
 elements_back t seen n (d ∷ ds) (e ∷ es) r h =
-    ((subst (λ z. z < t) (sym r.0.0) h.0.0, (d.offset, r.0.1, h.0.1), subst (λ z. AllByRecursion (λ x. x < n) z) (sym r.0.2) h.0.2), elements_back t seen n ds es r.1 h.1)
+    ((mode_back t seen d.mode e.table e.offset r.0.0 r.0.1 h.0.0, subst (λ z. AllByRecursion (λ x. x < n) z) (sym r.0.2) h.0.1), elements_back t seen n ds es r.1 h.1)
 
 segments_back : (m : ℕ) (seen : List GlobalType) (ds : List Segment) (ss : List FlatSegment) → AllZip IsSegmentOf ds ss → AllByRecursion (SegmentIn m seen) ds → AllByRecursion (GoodSegment m seen) ss
 segments_back m seen [] [] r h = tt
 segments_back m seen [] (s ∷ ss) r h = absurd r
 segments_back m seen (d ∷ ds) [] r h = absurd r
-segments_back m seen (d ∷ ds) (s ∷ ss) r h = ((subst (λ z. z < m) (sym r.0.0) h.0.0, (d.offset, r.0.1, h.0.1)), segments_back m seen ds ss r.1 h.1)
+segments_back m seen (d ∷ ds) (s ∷ ss) r h = (mode_back m seen d.mode s.memory s.offset r.0.0 r.0.1 h.0, segments_back m seen ds ss r.1 h.1)
 
 all_weaker : {X : Type 0} (P Q : X → Type 0) → ((x : X) → P x → Q x) → (xs : List X) → AllByRecursion P xs → AllByRecursion Q xs
 all_weaker P Q f [] h = tt
@@ -160,12 +177,25 @@ items_same m v f g t n kind.Table = ap length t
 items_same m v f g t n kind.Memory = ap length n
 items_same m v f g t n kind.Global = ap length g
 
-abbrev context_with : FlatModule → List ℕ → List GlobalType → Context
-context_with v f g = context v.types f g (is_some_item (flat_tables v)) (is_some_item (flat_memories v))
+abbrev context_with : FlatModule → List ℕ → List GlobalType → (elements : ℕ) → Context
+context_with v f g n = context v.types f g (is_some_item (flat_tables v)) (is_some_item (flat_memories v)) n (given v.data_count)
+
+-- A data count section gives the number of data segments (`Counts`). Without one, no body names a data segment.
+abbrev Counts : Option ℕ → ℕ → Type 0
+Counts x n = IfSome x (λ k. k ≡ n)
+
+module _ (c : Context) (fs : List Function) (n : ℕ) where
+  count_to : (x : Option ℕ) → Counts x n → AllByRecursion (TypedFunction (counting c (given x))) fs → AllByRecursion (TypedFunction (counting c n)) fs × (x ≡ None → IsFalse (bodies_name_segment fs))
+  count_to None e h = let named = functions_none c fs h in (functions_recounted c 0 n fs named h, λ q. named)
+  count_to (Some k) e h = (subst (λ y. AllByRecursion (TypedFunction (counting c y)) fs) e h, λ q. absurd (cc))
+
+  count_from : (x : Option ℕ) → Counts x n → (x ≡ None → IsFalse (bodies_name_segment fs)) → AllByRecursion (TypedFunction (counting c n)) fs → AllByRecursion (TypedFunction (counting c (given x))) fs
+  count_from None e named h = functions_recounted c n 0 fs (named refl) h
+  count_from (Some k) e named h = subst (λ y. AllByRecursion (TypedFunction (counting c y)) fs) (sym e) h
 
 -- a good flat value is that of a valid module
-pub made : (v : FlatModule) → IsGood v → (m : Module) × IsFlatOf m v × Valid m
-made v d =
+pub made : (v : FlatModule) → IfSome v.data_count (λ n. n ≡ length v.segments) → IsGood v → (m : Module) × IsFlatOf m v × Valid m
+made v counts d =
     let fs = functions_made (flat_context v) d.types v.functions v.codes d.functions d.codes in
     let gs = globals_made (filter_map imported_global v.imports) v.globals d.globals in
     let es = elements_made (length (flat_tables v)) (flat_globals v) (length (flat_functions v)) v.elements d.elements in
@@ -184,7 +214,11 @@ made v d =
     } in
     let f : flat_functions v ≡ all_functions m = ap (λ z. filter_map imported_function v.imports ++ z) (sym (indices fs.0 v.functions fs.1)) in
     let g : flat_globals v ≡ all_globals m = ap (λ z. filter_map imported_global v.imports ++ z) (sym (global_types gs.0 v.globals gs.1)) in
-    let same : flat_context v ≡ module_context m = ap (λ z. context_with v z (flat_globals v)) f ∙ ap (λ z. context_with v (all_functions m) z) g in (
+    let elements_alike : length v.elements ≡ length es.0 = AllZip-long IsElementOf es.0 v.elements es.1 in
+    let same : flat_context v ≡ counting (module_context m) (given v.data_count) =
+    ap (λ z. context_with v z (flat_globals v) (length v.elements)) f ∙ (ap (λ z. context_with v (all_functions m) z (length v.elements)) g ∙ ap (context_with v (all_functions m) (all_globals m)) elements_alike) in
+    let as_many : length v.segments ≡ length ss.0 = AllZip-long IsSegmentOf ss.0 v.segments ss.1 in
+    let bodies = count_to (module_context m) fs.0 (length ss.0) v.data_count (subst (Counts v.data_count) as_many counts) (subst (λ c. AllByRecursion (TypedFunction c) fs.0) same fs.3) in (
       m,
       record {
         types = refl;
@@ -198,11 +232,12 @@ made v d =
         elements = es.1;
         codes = fs.2;
         segments = ss.1;
+        count = bodies.1;
       },
       record {
         types = d.types;
         imports = d.imports;
-        functions = subst (λ c. AllByRecursion (TypedFunction c) fs.0) same fs.3;
+        functions = bodies.0;
         tables = d.tables;
         memories = d.memories;
         globals = gs.2;
@@ -217,8 +252,8 @@ made v d =
     )
 
 -- the flat value of a module with these members
-abbrev flat_with : Module → List ℕ → List FlatGlobal → List FlatElement → List FlatCode → List FlatSegment → FlatModule
-flat_with m xs gs es cs ss = record {
+abbrev flat_with : Module → List ℕ → List FlatGlobal → List FlatElement → Option ℕ → List FlatCode → List FlatSegment → FlatModule
+flat_with m xs gs es n cs ss = record {
   types = m.types;
   imports = m.imports;
   functions = xs;
@@ -228,19 +263,23 @@ flat_with m xs gs es cs ss = record {
   exports = m.exports;
   start = m.start;
   elements = es;
+  data_count = n;
   codes = cs;
   segments = ss;
 }
 
-good : (m : Module) (xs : List ℕ) (gs : List FlatGlobal) (es : List FlatElement) (cs : List FlatCode) (ss : List FlatSegment)
+good : (m : Module) (xs : List ℕ) (gs : List FlatGlobal) (es : List FlatElement) (n : Option ℕ) (cs : List FlatCode) (ss : List FlatSegment)
     → AllZip IsIndexOf m.functions xs → AllZip IsGlobalOf m.globals gs → AllZip IsElementOf m.elements es → AllZip IsCodeOf m.functions cs → AllZip IsSegmentOf m.segments ss
-    → Valid m → IsGood (flat_with m xs gs es cs ss)
-good m xs gs es cs ss i r e k s h =
-    let v = flat_with m xs gs es cs ss in
+    → Counts n (length m.segments) → (n ≡ None → IsFalse (bodies_name_segment m.functions)) → Valid m → IsGood (flat_with m xs gs es n cs ss)
+good m xs gs es n cs ss i r e k s counts named h =
+    let v = flat_with m xs gs es n cs ss in
     let f : all_functions m ≡ flat_functions v = ap (λ z. filter_map imported_function m.imports ++ z) (indices m.functions xs i) in
     let g : all_globals m ≡ flat_globals v = ap (λ z. filter_map imported_global m.imports ++ z) (global_types m.globals gs r) in
-    let same : module_context m ≡ flat_context v = ap (λ z. context_with v z (all_globals m)) f ∙ ap (λ z. context_with v (flat_functions v) z) g in
-    let fs = functions_back (module_context m) h.types m.functions xs cs i k h.functions in
+    let elements_alike : length m.elements ≡ length es = sym (AllZip-long IsElementOf m.elements es e) in
+    let same : counting (module_context m) (given n) ≡ flat_context v =
+    ap (λ z. context_with v z (all_globals m) (length m.elements)) f ∙ (ap (λ z. context_with v (flat_functions v) z (length m.elements)) g ∙ ap (context_with v (flat_functions v) (flat_globals v)) elements_alike) in
+    let bodies = count_from (module_context m) m.functions (length m.segments) n counts named h.functions in
+    let fs = functions_back (counting (module_context m) (given n)) h.types m.functions xs cs i k bodies in
     record {
       types = h.types;
       imports = h.imports;
@@ -260,10 +299,11 @@ good m xs gs es cs ss i r e k s h =
     }
 
 -- the flat value of a valid module is good
-pub good_of : (m : Module) (v : FlatModule) → IsFlatOf m v → Valid m → IsGood v
-good_of m v r h =
-    let d = good m v.functions v.globals v.elements v.codes v.segments r.functions r.globals r.elements r.codes r.segments h in
-    let same : flat_with m v.functions v.globals v.elements v.codes v.segments ≡ v =
+pub good_of : (m : Module) (v : FlatModule) → IsFlatOf m v → IfSome v.data_count (λ n. n ≡ length v.segments) → Valid m → IsGood v
+good_of m v r counts h =
+    let as_many : length v.segments ≡ length m.segments = AllZip-long IsSegmentOf m.segments v.segments r.segments in
+    let d = good m v.functions v.globals v.elements v.data_count v.codes v.segments r.functions r.globals r.elements r.codes r.segments (subst (Counts v.data_count) as_many counts) r.count h in
+    let same : flat_with m v.functions v.globals v.elements v.data_count v.codes v.segments ≡ v =
     ap (λ z. record v { types = z; imports = m.imports; tables = m.tables; memories = m.memories; exports = m.exports; start = m.start }) (sym r.types)
     ∙ (ap (λ z. record v { imports = z; tables = m.tables; memories = m.memories; exports = m.exports; start = m.start }) (sym r.imports)
     ∙ (ap (λ z. record v { tables = z; memories = m.memories; exports = m.exports; start = m.start }) (sym r.tables)

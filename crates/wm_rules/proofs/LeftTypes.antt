@@ -1,5 +1,5 @@
 -- The meaning of `Arity` for the lists of types that the innermost open list can leave.
-use Rattle.std.proofs.Common.{◌≡◌, ℕ, suc, ◌≤◌, ◌<◌, inl, inr, Bool, true, false, cond, List, [], ◌∷◌, ◌++◌, Option, Some, None, Result, Ok, Err, reverse, length, map, slice_get, option_to_list, refl, sym, ◌∙◌, ap, subst, arith, length-append, nat_eq, nat_le, ◌^◌}
+use Rattle.std.proofs.Common.{◌≡◌, ℕ, suc, ◌≤◌, ◌<◌, inl, inr, Bool, true, false, cond, List, [], ◌∷◌, ◌++◌, Option, Some, None, Result, Ok, Err, reverse, length, map, slice_get, option_to_list, refl, sym, ◌∙◌, ap, subst, arith, length-append, nat_eq, nat_le, nat_lt, ◌^◌}
 use Rattle.std.proofs.lemmas.List.{length-reverse}
 use Rattle.wm_syntax.specs.declared.types.ValType.{ValType}
 use Rattle.wm_syntax.specs.declared.types.ValType.TheVariants.{I32}
@@ -23,7 +23,7 @@ use Rattle.wm_syntax.specs.Types.{Signature}
 use Rattle.wm_syntax.specs.declared.types.GlobalType.{GlobalType}
 use Rattle.wm_syntax.specs.declared.instructions.Simple.TheVariants as simple
 use Rattle.wm_typing.specs.OpenLists.{head, head_of, label_type, Place, open_at, within, complete, at}
-use Rattle.wm_typing.specs.exact.Effects.{Effect, fixed, indirect, is_polymorphic, drops, selects, ill, with_item, where_true, effect_of}
+use Rattle.wm_typing.specs.exact.Effects.{Effect, fixed, indirect, is_polymorphic, drops, selects, ill, with_item, where_true, bulk_effect, table_effect, effect_of}
 use Rattle.wm_typing.specs.exact.Ops.{after_call, drive, drive_close, drive_diverges, drive_else, drive_end, drive_known, drive_label, drive_op, else_of, end_of, give_to, goes_with, labels_of, may_end, with_table, within_frames}
 use Rattle.wm_typing.specs.inner.Frames.{Frames, running, in_table, ended, Holds, Stands, TracksWith}
 use Rattle.wm_typing.proofs.Effects.{HasShape, shape, typed}
@@ -147,6 +147,13 @@ module _ (w : Why) (index : why.Index ≡ w → ⊥) (immutable : why.Immutable 
   never_ill c simple.MemoryGrow e = test_never why.Index c.has_memory (fixed (I32 ∷ []) (I32 ∷ [])) index (λ d. cc) e
   never_ill c simple.MemoryCopy e = test_never why.Index c.has_memory (fixed (I32 ∷ I32 ∷ I32 ∷ []) []) index (λ d. cc) e
   never_ill c simple.MemoryFill e = test_never why.Index c.has_memory (fixed (I32 ∷ I32 ∷ I32 ∷ []) []) index (λ d. cc) e
+  never_ill c (simple.MemoryInit x) e =
+      test_never why.Index (nat_lt x c.segments) (bulk_effect c) index (test_never why.Index c.has_memory (fixed (I32 ∷ I32 ∷ I32 ∷ []) []) index (λ d. cc)) e
+  never_ill c (simple.DataDrop x) e = test_never why.Index (nat_lt x c.segments) (fixed [] []) index (λ d. cc) e
+  never_ill c (simple.TableInit x) e =
+      test_never why.Index (nat_lt x c.elements) (table_effect c) index (test_never why.Index c.has_table (fixed (I32 ∷ I32 ∷ I32 ∷ []) []) index (λ d. cc)) e
+  never_ill c (simple.ElemDrop x) e = test_never why.Index (nat_lt x c.elements) (fixed [] []) index (λ d. cc) e
+  never_ill c simple.TableCopy e = test_never why.Index c.has_table (fixed (I32 ∷ I32 ∷ I32 ∷ []) []) index (λ d. cc) e
   never_ill c (simple.I32Const n) e = cc
   never_ill c (simple.I64Const n) e = cc
   never_ill c (simple.F32Const n) e = cc

@@ -25,13 +25,13 @@ use Rattle.wm_stacks.specs.exact.Stacks.{open_frame, count_after_move, pop_to, a
 use Rattle.wm_typing.specs.declared.labels.BrTable.{BrTable}
 use Rattle.wm_typing.specs.Typing.{Context, function_type}
 use Rattle.wm_typing.specs.exact.OperandTypes.{join}
-use Rattle.wm_typing.specs.exact.Effects.{Effect, fixed, indirect, is_polymorphic, drops, selects, ill, with_item, where_true, effect_of}
+use Rattle.wm_typing.specs.exact.Effects.{Effect, fixed, indirect, is_polymorphic, drops, selects, ill, with_item, where_true, bulk_effect, table_effect, effect_of}
 use Rattle.wm_typing.specs.exact.Ops.{push_all, after_call as then_on, drive_fixed, drive_diverges, push_joined, select_from, drive, drive_close, else_of, drive_else, may_end, give_to, drive_end, drive_if, drive_count, with_table, goes_with, drive_known, drive_label, labels_of, within_frames, drive_op, step}
 use Rattle.wm_typing.specs.Bodies.{BodyState, Body}
 use Rattle.wm_typing.specs.exact.Bodies.{context_in, body_after_op, body_from as body_stepped_to, unless_refused}
 use Rattle.wm_typing.specs.Probes.{probes_in}
 use Rattle.wm_machine.specs.Sinks.{and_then}
-use Rattle.std.proofs.lemmas.Bool.{leb-false}
+use Rattle.std.proofs.lemmas.Bool.{leb-false, ltb-false}
 use Rattle.std.proofs.Common.{map, inl, inr}
 use Rattle.wm_typing.specs.OpenLists.{Head, head, head_of}
 use Rattle.wm_rules.specs.Meanings.{IsAlignedPast, IsNoFirstBranch, OpNamesNothing, SetsConstant}
@@ -215,6 +215,15 @@ module _ (E N : Type 0) where
   shape_says c simple.MemoryGrow n = true_says c simple.MemoryGrow why.Index c.has_memory (fixed (I32 ∷ []) (I32 ∷ [])) n tt
   shape_says c simple.MemoryCopy n = true_says c simple.MemoryCopy why.Index c.has_memory (fixed (I32 ∷ I32 ∷ I32 ∷ []) []) n tt
   shape_says c simple.MemoryFill n = true_says c simple.MemoryFill why.Index c.has_memory (fixed (I32 ∷ I32 ∷ I32 ∷ []) []) n tt
+  shape_says c (simple.MemoryInit x) n =
+      true_says c (simple.MemoryInit x) why.Index (nat_lt x c.segments) (bulk_effect c) (λ e. n (inl (ltb-false x c.segments e)))
+      (true_says c (simple.MemoryInit x) why.Index c.has_memory (fixed (I32 ∷ I32 ∷ I32 ∷ []) []) (λ e. n (inr e)) tt)
+  shape_says c (simple.DataDrop x) n = true_says c (simple.DataDrop x) why.Index (nat_lt x c.segments) (fixed [] []) (λ e. n (ltb-false x c.segments e)) tt
+  shape_says c (simple.TableInit x) n =
+      true_says c (simple.TableInit x) why.Index (nat_lt x c.elements) (table_effect c) (λ e. n (inl (ltb-false x c.elements e)))
+      (true_says c (simple.TableInit x) why.Index c.has_table (fixed (I32 ∷ I32 ∷ I32 ∷ []) []) (λ e. n (inr e)) tt)
+  shape_says c (simple.ElemDrop x) n = true_says c (simple.ElemDrop x) why.Index (nat_lt x c.elements) (fixed [] []) (λ e. n (ltb-false x c.elements e)) tt
+  shape_says c simple.TableCopy n = true_says c simple.TableCopy why.Index c.has_table (fixed (I32 ∷ I32 ∷ I32 ∷ []) []) n tt
   shape_says c (simple.I32Const m) n = tt
   shape_says c (simple.I64Const m) n = tt
   shape_says c (simple.F32Const m) n = tt

@@ -1,8 +1,10 @@
 -- An item outside code entries changes neither the body at hand nor the figures. No type gets a second result.
 use Rattle.std.proofs.Common.{ℕ, ◌+◌, ◌≡◌, ◌≤◌, List, [], ◌∷◌, ◌++◌, Option, Some, None, Bool, true, false, cond, Result, Ok, Err, length, refl, sym, subst, arith, length-append, nat_eq, nat_lt}
+use Rattle.wm_machine.specs.Items.{passive_element, passive_segment}
 use Rattle.std.specs.List.{AllByRecursion}
 use Rattle.std.proofs.lemmas.Bool.{eqb-true}
 use Rattle.wm_syntax.specs.declared.types.ValType.{ValType}
+use Rattle.wm_syntax.specs.declared.types.ValType.TheVariants.{I32}
 use Rattle.wm_syntax.specs.declared.instructions.Op.{Op}
 use Rattle.wm_syntax.specs.declared.modules.ImportDesc.{ImportDesc}
 use Rattle.wm_syntax.specs.declared.modules.ImportDesc.TheVariants as desc
@@ -10,16 +12,16 @@ use Rattle.wm_syntax.specs.declared.why.Why.{Why}
 use Rattle.wm_syntax.specs.declared.why.Why.TheVariants as why
 use Rattle.wm_syntax.specs.Types.{Signature}
 use Rattle.wm_syntax.proofs.ProfileLaws.{all_append}
-use Rattle.wm_machine.specs.Items.{Item, new_type, param, result_count, one_result, import_module, import_name, import_desc, function, table, memory, global, const_op, export_name, export, start, element, element_function, body, locals, body_op, segment, data_byte}
+use Rattle.wm_machine.specs.Items.{Item, new_type, param, result_count, one_result, import_module, import_name, import_desc, function, table, memory, global, const_op, export_name, export, start, element, element_function, data_count, body, locals, body_op, segment, data_byte}
 use Rattle.wm_machine.specs.Sinks.{all_taken, and_then}
 use Rattle.wm_typing.specs.declared.body_checker.Progress.{Progress}
 use Rattle.wm_typing.specs.declared.body_checker.Progress.TheVariants.{Inside, Ended}
 use Rattle.wm_typing.specs.Bodies.{Body}
 use Rattle.wm_typing.specs.exact.Bodies.{body_at_start, progress_at}
 use Rattle.wm_rules.specs.declared.constants.Constant.{Constant}
-use Rattle.wm_rules.specs.exact.Spaces.{on_last, one_param_more, one_result_more, type_begun, param_added, result_added, function_added, global_added, table_added, memory_added, import_added, context_of, next_type, with_types}
+use Rattle.wm_rules.specs.exact.Spaces.{segments_counted, on_last, one_param_more, one_result_more, type_begun, param_added, result_added, function_added, global_added, table_added, memory_added, import_added, context_of, next_type, with_types}
 use Rattle.wm_rules.specs.Holding.{IndexSpaces, Held}
-use Rattle.wm_rules.specs.exact.Checking.{after, body_begun, checker_after_op, with_body, with_progress, constant_begun, in_constant, in_names, in_spaces, where_ok, with_constant}
+use Rattle.wm_rules.specs.exact.Checking.{after, body_begun, checker_after_op, with_body, with_progress, constant_begun, in_constant, in_names, in_spaces, where_ok, with_constant, with_element}
 use Rattle.wm_rules.proofs.CodeMembers.{OneResults}
 use Rattle.wm_rules.proofs.MemberFolds.{cond_ok, ok_then}
 
@@ -144,12 +146,15 @@ part_calm h g (const_op o) i e = constant_calm o h g h.constant e
 part_calm h g (export_name name) i e = names_calm h g _ e
 part_calm h g (export k x) i e = where_calm h g _ e
 part_calm h g (start x) i e = where_calm h g _ e
-part_calm h g (element x) i e = offset_calm h g _ _ (begun_calm _ _ h) e
+part_calm h g (element x) i e = offset_calm h g (constant_begun I32 (length h.spaces.globals) (with_element h)) _ (record { body = refl; in_body = refl; most = refl; one = λ o. o }) e
+part_calm h g passive_element i e = itself h (with_element h) g (record { body = refl; in_body = refl; most = refl; one = λ o. o }) e
 part_calm h g (element_function x) i e = where_calm h g _ e
+part_calm h g (data_count n) i e = itself h (record h { spaces = segments_counted n h.spaces }) g (record { body = refl; in_body = refl; most = refl; one = λ o. o }) e
 part_calm h g body i e = absurd i
 part_calm h g (locals n t) i e = absurd i
 part_calm h g (body_op o) i e = absurd i
 part_calm h g (segment x) i e = offset_calm h g _ _ (begun_calm _ _ h) e
+part_calm h g passive_segment i e = itself h h g (same h) e
 part_calm h g (data_byte c) i e = itself h h g (same h) e
 
 -- no item gives a type a second result
@@ -191,8 +196,11 @@ part_one h g (export_name name) e o = (part_calm h g (export_name name) tt e).on
 part_one h g (export k x) e o = (part_calm h g (export k x) tt e).one o
 part_one h g (start x) e o = (part_calm h g (start x) tt e).one o
 part_one h g (element x) e o = (part_calm h g (element x) tt e).one o
+part_one h g passive_element e o = (part_calm h g passive_element tt e).one o
 part_one h g (element_function x) e o = (part_calm h g (element_function x) tt e).one o
+part_one h g (data_count n) e o = (part_calm h g (data_count n) tt e).one o
 part_one h g (segment x) e o = (part_calm h g (segment x) tt e).one o
+part_one h g passive_segment e o = (part_calm h g passive_segment tt e).one o
 part_one h g (data_byte c) e o = (part_calm h g (data_byte c) tt e).one o
 
 pub parts_one : (ps : List Item) (h g : Held) → all_taken after h ps ≡ Ok g → OneResults h → OneResults g

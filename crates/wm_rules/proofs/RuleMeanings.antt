@@ -1,5 +1,6 @@
 -- The meanings of the names of rules, for the items so far and the refused item.
 use Rattle.std.proofs.Common.{◌≡◌, ℕ, ◌^◌, ◌+◌, ◌≤◌, ◌<◌, ◌⊎◌, inl, inr, cond, Bool, true, false, List, [], ◌∷◌, ◌++◌, length, map, slice_get, Option, Some, None, Result, Ok, Err, refl, sym, ◌∙◌, ap, subst, nat_lt, arith}
+use Rattle.wm_machine.specs.Items.{passive_element, passive_segment}
 use Rattle.std.proofs.lemmas.Bool.{cond_both, ltb-false, ltb-true}
 use Rattle.std.proofs.lemmas.Option.{slice_get-get_or}
 use Rattle.wm_syntax.specs.declared.why.Why.{Why}
@@ -35,14 +36,14 @@ use Rattle.wm_typing.proofs.BegunBodies.{begun_body}
 use Rattle.wm_typing.proofs.StacksAfterOps.{body_can, front_typed}
 use Rattle.wm_typing.proofs.OneOp.{holds_can}
 use Rattle.wm_machine.specs.Flat.{code_items}
-use Rattle.wm_machine.specs.Items.{Item, new_type, param, result_count, one_result, import_module, import_name, import_desc, function, table, memory, global, const_op, export_name, export, start, element, element_function, body, locals, body_op, segment, data_byte}
+use Rattle.wm_machine.specs.Items.{Item, new_type, param, result_count, one_result, import_module, import_name, import_desc, function, table, memory, global, const_op, export_name, export, start, element, element_function, data_count, body, locals, body_op, segment, data_byte}
 use Rattle.wm_machine.specs.Meanings.{IsRuleName}
 use Rattle.wm_machine.specs.Sinks.{all_taken, and_then}
 use Rattle.wm_rules.specs.declared.constants.Constant.{Constant}
 use Rattle.wm_rules.specs.Holding.{IndexSpaces, Held}
 use Rattle.wm_rules.specs.exact.Constants.{constant_expecting, visible}
 use Rattle.wm_rules.specs.exact.Spaces.{items_in, one_if, index_check, is_plain, is_within, next_type, plain, context_of, function_added, import_added, table_added, memory_added}
-use Rattle.wm_rules.specs.exact.Checking.{after, checker_after_op, constant_begun, empty_checker, in_names, in_spaces, is_taken, put_name, where_ok}
+use Rattle.wm_rules.specs.exact.Checking.{after, checker_after_op, constant_begun, empty_checker, in_names, in_spaces, is_taken, put_name, where_ok, with_element}
 use Rattle.wm_rules.specs.Validation.{WithinRange}
 use Rattle.wm_rules.specs.Meanings.{AreTooMany, CountDiffers, Leaves, BeginsBefore, BeginsBody, EndsTyping, HasOtherType, HasWrongCount, IsMistyped, IsNotOne, LastHasResult, AtConstant, AtOp, CannotBeConstant, ConstantNamesNothing, HasNoItem, InBody, InConstant, InEntry, IsAlignedPast, IsConstantOf, IsElseOutside, IsNoFirstBranch, IsNoStart, IsOutOfRange, IsRepeated, IsSecond, OpNamesNothing, SetsConstant, TypesDiffer, context_inside, context_of_body, context_so_far, heads_of, how_many, next_function, one_where, so_far}
 use Rattle.wm_rules.proofs.CodeEntries.{at_hand, over_at_hand}
@@ -182,8 +183,8 @@ constant_begins (global v) t n h g o e =
     let is : k ≡ g = cc in
     sym (ap (λ (z : Held). z.constant) is) ∙ expecting_same t v.ty n h.spaces.imported_globals o.0 o.1
 constant_begins (element x) t n h g o e =
-    let r = ok_then (index_check kind.Table x h.spaces) (λ u. Ok (constant_begun I32 (length h.spaces.globals) h)) g e in
-    let is : constant_begun I32 (length h.spaces.globals) h ≡ g = cc (r.2) in
+    let r = ok_then (index_check kind.Table x h.spaces) (λ u. Ok (constant_begun I32 (length h.spaces.globals) (with_element h))) g e in
+    let is : constant_begun I32 (length h.spaces.globals) (with_element h) ≡ g = cc (r.2) in
     sym (ap (λ (z : Held). z.constant) is) ∙ expecting_same t I32 n (length h.spaces.globals) o.0 o.1
 constant_begins (segment x) t n h g o e =
     let r = ok_then (index_check kind.Memory x h.spaces) (λ u. Ok (constant_begun I32 (length h.spaces.globals) h)) g e in
@@ -492,11 +493,14 @@ module _ (items : List Item) (h : Held) (t : all_taken after empty_checker items
       let same = ap (λ (y : IndexSpaces). function_type (context_of y) x) told in
       start_refused x w (function_type (context_of h.spaces) x) (sym same) (ok_err h (plain (function_type (context_of h.spaces) x)) w e)
   item_refused (element x) w e = is_index (element x) w (no_item kind.Table x w (then_err (index_check kind.Table x h.spaces) _ w e))
+  item_refused passive_element w e = absurd (cc)
   item_refused (element_function x) w e = is_index (element_function x) w (no_item kind.Func x w (ok_err h (index_check kind.Func x h.spaces) w e))
+  item_refused (data_count n) w e = absurd (cc)
   item_refused body w e =
       let n = only (λ v. (v ≡ why.Index) × (next_type h.spaces ≡ None)) (after h body) w (entry_name h) e in
       is_index body w (sym n.0, sym (ap next_function told) ∙ n.1)
   item_refused (locals n v) w e = by_locals w n v (only (LocalsSay h.in_body h.body n) (after h (locals n v)) w (locals_names items h n v t) e)
   item_refused (body_op o) w e = by_op w o e (only (OpOf h o) (after h (body_op o)) w (op_names items h o t) e)
   item_refused (segment x) w e = is_index (segment x) w (no_item kind.Memory x w (then_err (index_check kind.Memory x h.spaces) _ w e))
+  item_refused passive_segment w e = absurd (cc)
   item_refused (data_byte c) w e = absurd (cc)

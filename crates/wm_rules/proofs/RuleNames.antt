@@ -1,6 +1,7 @@
 -- The names that may refuse types, constants and code entries, and the meanings of `Index`, `Type`, `Arity` and
 -- `NotConst` for them.
 use Rattle.std.proofs.Common.{◌≡◌, ◌+◌, ◌^◌, ℕ, List, [], ◌∷◌, ◌++◌, Bool, true, false, cond, Option, Some, None, Result, Ok, Err, replicate, length, slice_get, subst, sym, ◌∙◌, ap, refl}
+use Rattle.wm_machine.specs.Items.{passive_element, passive_segment}
 use Rattle.std.specs.Prelude.{nat_le, nat_lt, nat_eq}
 use Rattle.wm_syntax.specs.declared.types.ValType.{ValType}
 use Rattle.wm_syntax.specs.declared.types.ValType.TheVariants.{I32, I64, F32, F64}
@@ -20,7 +21,7 @@ use Rattle.wm_typing.specs.exact.Bodies.{context_in, declared_more, declared_to,
 use Rattle.wm_typing.specs.Probes.{probes_in}
 use Rattle.wm_typing.specs.declared.body_checker.Progress.{Progress}
 use Rattle.wm_typing.specs.declared.body_checker.Progress.TheVariants.{Inside, Ended}
-use Rattle.wm_machine.specs.Items.{Item, new_type, param, result_count, one_result, import_module, import_name, import_desc, function, table, memory, global, const_op, export_name, export, start, element, element_function, body, locals, body_op, segment, data_byte}
+use Rattle.wm_machine.specs.Items.{Item, new_type, param, result_count, one_result, import_module, import_name, import_desc, function, table, memory, global, const_op, export_name, export, start, element, element_function, data_count, body, locals, body_op, segment, data_byte}
 use Rattle.wm_machine.specs.Sinks.{all_taken, and_then}
 use Rattle.wm_rules.specs.declared.constants.Constant.{Constant}
 use Rattle.wm_rules.specs.exact.Constants.{constant_after, first_only, of_global, of_type, visible}
@@ -306,8 +307,11 @@ part_kept h g x e n = go x e
     go (export k y) t = outside (export k y) tt t
     go (start y) t = outside (start y) tt t
     go (element y) t = outside (element y) tt t
+    go passive_element t = outside passive_element tt t
     go (element_function y) t = outside (element_function y) tt t
+    go (data_count y) t = outside (data_count y) tt t
     go (segment y) t = outside (segment y) tt t
+    go passive_segment t = outside passive_segment tt t
     go (data_byte y) t = outside (data_byte y) tt t
 
 all_kept : (items : List Item) (h g : Held) → all_taken after h items ≡ Ok g → IsUnrefused h → IsUnrefused g

@@ -1,5 +1,6 @@
 -- The index spaces and the names of a checker are those of its items.
 use Rattle.std.proofs.Common.{◌≡◌, ℕ, ◌+◌, ◌^◌, cond, Bool, true, false, List, [], ◌∷◌, ◌++◌, Option, Some, None, Result, Ok, Err, length, inl, inr, ◌⊎◌, ◌||◌, refl, sym, ◌∙◌, ap, subst, nat_lt, nat_eq}
+use Rattle.wm_machine.specs.Items.{passive_element, passive_segment}
 use Rattle.wm_syntax.specs.declared.why.Why.{Why}
 use Rattle.wm_syntax.specs.declared.why.Why.TheVariants as why
 use Rattle.wm_syntax.specs.declared.types.ValType.TheVariants.{I32}
@@ -13,7 +14,7 @@ use Rattle.wm_typing.specs.declared.body_checker.Progress.{Progress}
 use Rattle.wm_typing.specs.declared.body_checker.Progress.TheVariants.{Inside, Ended}
 use Rattle.wm_typing.specs.exact.Bodies.{declared_more, progress_at, body_after_op}
 use Rattle.wm_typing.specs.Typing.{function_type}
-use Rattle.wm_machine.specs.Items.{Item, new_type, param, result_count, one_result, import_module, import_name, import_desc, function, table, memory, global, const_op, export_name, export, start, element, element_function, body, locals, body_op, segment, data_byte}
+use Rattle.wm_machine.specs.Items.{Item, new_type, param, result_count, one_result, import_module, import_name, import_desc, function, table, memory, global, const_op, export_name, export, start, element, element_function, data_count, body, locals, body_op, segment, data_byte}
 use Rattle.wm_machine.specs.Sinks.{all_taken, and_then}
 use Rattle.wm_rules.specs.declared.constants.Constant.{Constant}
 use Rattle.wm_rules.specs.Holding.{IndexSpaces, Held}
@@ -22,7 +23,7 @@ use Rattle.wm_rules.specs.exact.Spaces.{on_last, one_param_more, one_result_more
 use Rattle.std.specs.Str.{bytes_eq}
 use Rattle.std.proofs.lemmas.Slice.Eq.{bytes_eq-Decides}
 use Rattle.wm_rules.proofs.NewNames.{taken_put}
-use Rattle.wm_rules.specs.exact.Checking.{after, is_taken, put_name, body_begun, constant_begun, empty_checker, in_constant, with_constant, in_names, in_spaces, one_at_most, checker_after_op, where_ok, with_body, with_progress}
+use Rattle.wm_rules.specs.exact.Checking.{after, is_taken, put_name, body_begun, constant_begun, empty_checker, in_constant, with_constant, in_names, in_spaces, one_at_most, checker_after_op, where_ok, with_body, with_element, with_progress}
 use Rattle.wm_rules.specs.Meanings.{IsRepeated, with_item, with_items, with_last_type, so_far}
 use Rattle.wm_rules.proofs.MemberFolds.{ok_then}
 
@@ -131,12 +132,15 @@ item_told h g (const_op o) e = constant_same o h g h.constant e
 item_told h g (export_name name) e = named_same h g name (is_taken name h.names) e
 item_told h g (export k x) e = where_same h g (index_check k x h.spaces) e
 item_told h g (start x) e = where_same h g (plain (function_type (context_of h.spaces) x)) e
-item_told h g (element x) e = offset_same (constant_begun I32 (length h.spaces.globals) h) g (index_check kind.Table x h.spaces) e
+item_told h g (element x) e = offset_same (constant_begun I32 (length h.spaces.globals) (with_element h)) g (index_check kind.Table x h.spaces) e
+item_told h g passive_element e = itself (with_element h) g e
 item_told h g (element_function x) e = where_same h g (index_check kind.Func x h.spaces) e
+item_told h g (data_count n) e = itself (record h { spaces = record h.spaces { segments = n } }) g e
 item_told h g body e = begun_same h g (next_type h.spaces) e
 item_told h g (locals n t) e = locals_same h g h.in_body (declared_more n t h.body) e
 item_told h g (body_op o) e = op_same h g h.in_body (body_after_op (context_of h.spaces) o h.body) e
 item_told h g (segment x) e = offset_same (constant_begun I32 (length h.spaces.globals) h) g (index_check kind.Memory x h.spaces) e
+item_told h g passive_segment e = itself h g e
 item_told h g (data_byte c) e = itself h g e
 
 items_told : (items : List Item) (h g : Held) → all_taken after h items ≡ Ok g → g.spaces ≡ with_items h.spaces items

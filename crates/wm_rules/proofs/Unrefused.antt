@@ -1,5 +1,6 @@
 -- The body of a checker has refused nothing if all items were taken.
 use Rattle.std.proofs.Common.{ℕ, ◌+◌, ◌≡◌, Bool, true, false, cond, List, [], ◌∷◌, Option, Some, None, Result, Ok, Err, refl, sym, ◌∙◌, ap, subst}
+use Rattle.wm_machine.specs.Items.{passive_element, passive_segment}
 use Rattle.wm_syntax.specs.declared.types.ValType.{ValType}
 use Rattle.wm_syntax.specs.declared.why.Why.{Why}
 use Rattle.wm_syntax.specs.declared.why.Why.TheVariants as why
@@ -7,7 +8,7 @@ use Rattle.wm_typing.specs.declared.body_checker.Progress.{Progress}
 use Rattle.wm_typing.specs.declared.body_checker.Progress.TheVariants.{Inside, Ended}
 use Rattle.wm_typing.specs.Bodies.{Body, stats_after, BodyState}
 use Rattle.wm_typing.specs.exact.Bodies.{body_at_start, declared_more, declared_to, progress_at, body_after_op, body_from as body_to, unless_refused, with_state}
-use Rattle.wm_machine.specs.Items.{Item, new_type, param, result_count, one_result, import_module, import_name, import_desc, function, table, memory, global, const_op, export_name, export, start, element, element_function, body, locals, body_op, segment, data_byte}
+use Rattle.wm_machine.specs.Items.{Item, new_type, param, result_count, one_result, import_module, import_name, import_desc, function, table, memory, global, const_op, export_name, export, start, element, element_function, data_count, body, locals, body_op, segment, data_byte}
 use Rattle.wm_machine.specs.Sinks.{all_taken}
 use Rattle.wm_rules.specs.exact.Checking.{after, body_begun, checker_after_op, with_body, with_progress}
 use Rattle.wm_rules.specs.Holding.{Held}
@@ -75,8 +76,11 @@ part_unrefused h g (export_name name) e n = outside_same h g (export_name name) 
 part_unrefused h g (export k x) e n = outside_same h g (export k x) tt e n
 part_unrefused h g (start x) e n = outside_same h g (start x) tt e n
 part_unrefused h g (element x) e n = outside_same h g (element x) tt e n
+part_unrefused h g passive_element e n = outside_same h g passive_element tt e n
 part_unrefused h g (element_function x) e n = outside_same h g (element_function x) tt e n
+part_unrefused h g (data_count c) e n = outside_same h g (data_count c) tt e n
 part_unrefused h g (segment x) e n = outside_same h g (segment x) tt e n
+part_unrefused h g passive_segment e n = outside_same h g passive_segment tt e n
 part_unrefused h g (data_byte c) e n = outside_same h g (data_byte c) tt e n
 
 pub parts_unrefused : (ps : List Item) (h g : Held) → all_taken after h ps ≡ Ok g → refusal h ≡ None → refusal g ≡ None

@@ -1,5 +1,6 @@
 -- The number of retained entries is the weight of the items that were taken.
 use Rattle.std.proofs.Common.{ℕ, ◌+◌, ◌≡◌, List, [], ◌∷◌, ◌++◌, Option, Some, None, Bool, true, false, cond, Result, Ok, Err, length, refl, subst, arith, length-append, sum_by, nat_eq, nat_lt}
+use Rattle.wm_machine.specs.Items.{passive_element, passive_segment}
 use Rattle.std.proofs.lemmas.List.Sums.{sum_by-cons, sum_by_push}
 use Rattle.wm_syntax.specs.declared.types.ValType.{ValType}
 use Rattle.wm_syntax.specs.declared.types.GlobalType.{GlobalType}
@@ -12,12 +13,12 @@ use Rattle.wm_syntax.specs.Types.{Signature}
 use Rattle.wm_typing.specs.declared.body_checker.Progress.{Progress}
 use Rattle.wm_typing.specs.declared.body_checker.Progress.TheVariants.{Inside, Ended}
 use Rattle.wm_typing.specs.Bodies.{Body}
-use Rattle.wm_machine.specs.Items.{Item, new_type, param, result_count, one_result, import_module, import_name, import_desc, function, table, memory, global, const_op, export_name, export, start, element, element_function, body, locals, body_op, segment, data_byte}
+use Rattle.wm_machine.specs.Items.{Item, new_type, param, result_count, one_result, import_module, import_name, import_desc, function, table, memory, global, const_op, export_name, export, start, element, element_function, data_count, body, locals, body_op, segment, data_byte}
 use Rattle.wm_machine.specs.Sinks.{and_then, all_taken}
 use Rattle.wm_rules.specs.declared.constants.Constant.{Constant}
-use Rattle.wm_rules.specs.exact.Spaces.{on_last, one_param_more, one_result_more, type_begun, param_added, result_added, function_added, function_imported, global_added, global_imported, table_added, memory_added, import_added, with_types}
+use Rattle.wm_rules.specs.exact.Spaces.{segments_counted, on_last, one_param_more, one_result_more, type_begun, param_added, result_added, function_added, function_imported, global_added, global_imported, table_added, memory_added, import_added, with_types}
 use Rattle.wm_rules.specs.Holding.{IndexSpaces, Held}
-use Rattle.wm_rules.specs.exact.Checking.{after, constant_begun, empty_checker, in_constant, in_names, in_spaces, names_with, checker_after_op, where_ok, with_body, with_constant, with_progress, body_begun}
+use Rattle.wm_rules.specs.exact.Checking.{after, constant_begun, empty_checker, in_constant, in_names, in_spaces, names_with, checker_after_op, where_ok, with_body, with_constant, with_element, with_progress, body_begun}
 use Rattle.wm_rules.specs.Kept.{entries_in, list_entries, item_weight, width}
 use Rattle.wm_rules.proofs.MemberFolds.{cond_ok, ok_then}
 use Rattle.wm_rules.proofs.NewNames.{names_more}
@@ -175,11 +176,14 @@ part_adds h g (export_name name) e = names_add h g name e
 part_adds h g (export k x) e = where_stays h g _ e
 part_adds h g (start x) e = where_stays h g _ e
 part_adds h g (element x) e = offset_stays h g _ _ refl e
+part_adds h g passive_element e = stays h g (with_element h) refl e
 part_adds h g (element_function x) e = where_stays h g _ e
+part_adds h g (data_count n) e = stays h g (record h { spaces = segments_counted n h.spaces }) refl e
 part_adds h g body e = body_stays h g _ e
 part_adds h g (locals n t) e = with_body_stays h g h.in_body _ e
 part_adds h g (body_op o) e = op_stays h g h.in_body _ e
 part_adds h g (segment x) e = offset_stays h g _ _ refl e
+part_adds h g passive_segment e = stays h g h refl e
 part_adds h g (data_byte c) e = stays h g h refl e
 
 parts_add : (h g : Held) (ps : List Item) → all_taken after h ps ≡ Ok g → list_entries g ≡ list_entries h + sum_by item_weight ps

@@ -29,7 +29,7 @@ use Rattle.wm_machine.specs.declared.refusal.Refusal.{Refusal}
 use Rattle.wm_machine.specs.Items.{Item, new_type, param, result_count, one_result, import_desc}
 use Rattle.wm_machine.specs.Items.{function, table, memory}
 use Rattle.wm_machine.specs.Items.{global, const_op, export_name, export, start, element, element_function}
-use Rattle.wm_machine.specs.Items.{body, locals, body_op, segment}
+use Rattle.wm_machine.specs.Items.{passive_element, data_count, body, locals, body_op, segment}
 use Rattle.wm_machine.specs.Meanings.{AtItem, Meant, MeansOfFormat}
 use Rattle.wm_rules.specs.declared.policy.Policy.{Policy}
 use Rattle.wm_rules.specs.Holding.{IndexSpaces}
@@ -47,6 +47,8 @@ no_spaces = record {
   bodies = 0;
   has_table = false;
   has_memory = false;
+  elements = 0;
+  segments = 0;
 }
 
 abbrev pub with_last_type : (Signature → Signature) → List Signature → List Signature
@@ -70,6 +72,9 @@ with_item s (function x) = record s { functions = s.functions ++ x ∷ [] }
 with_item s (table l) = record s { has_table = true }
 with_item s (memory l) = record s { has_memory = true }
 with_item s (global g) = record s { globals = s.globals ++ g ∷ [] }
+with_item s (element x) = record s { elements = s.elements + 1 }
+with_item s passive_element = record s { elements = s.elements + 1 }
+with_item s (data_count n) = record s { segments = n }
 with_item s body = record s { bodies = s.bodies + 1 }
 with_item s _ = s
 
@@ -82,7 +87,7 @@ so_far items = with_items no_spaces items
 
 -- The context of the module so far. Core spec 3.4.10.
 abbrev pub context_so_far : IndexSpaces → Context
-context_so_far s = context s.types s.functions s.globals s.has_table s.has_memory
+context_so_far s = context s.types s.functions s.globals s.has_table s.has_memory s.elements s.segments
 
 abbrev pub one_where : Bool → ℕ
 one_where true = 1
@@ -193,8 +198,9 @@ abbrev pub ConstantNamesNothing : ℕ → Op → Type 0
 ConstantNamesNothing globals (op.Simple (simple.GlobalGet x)) = globals ≤ x
 ConstantNamesNothing globals _ = ⊥
 
--- `Index`, in a body: there is no such label, function, type, local or global, or no table or memory.
--- Core spec 3.3.3 to 3.3.5, WebAssembly 2.0 3.3.7.
+-- `Index`, in a body: there is no such label, function, type, local, global or element segment, or no table or memory.
+-- Or the number of data segments, which the data count section gives, is not above this index. Without that section it
+-- is 0. Core spec 3.3.3 to 3.3.5, WebAssembly 2.0 3.3.6, 3.3.7 and 5.5.16.
 abbrev pub OpNamesNothing : Context → Op → Type 0
 OpNamesNothing c (op.Simple (simple.Br l)) = slice_get c.labels l ≡ None
 OpNamesNothing c (op.Simple (simple.BrIf l)) = slice_get c.labels l ≡ None
@@ -209,6 +215,11 @@ OpNamesNothing c (op.Simple simple.MemorySize) = c.has_memory ≡ false
 OpNamesNothing c (op.Simple simple.MemoryGrow) = c.has_memory ≡ false
 OpNamesNothing c (op.Simple simple.MemoryCopy) = c.has_memory ≡ false
 OpNamesNothing c (op.Simple simple.MemoryFill) = c.has_memory ≡ false
+OpNamesNothing c (op.Simple (simple.MemoryInit x)) = (c.segments ≤ x) ⊎ (c.has_memory ≡ false)
+OpNamesNothing c (op.Simple (simple.DataDrop x)) = c.segments ≤ x
+OpNamesNothing c (op.Simple (simple.TableInit x)) = (c.elements ≤ x) ⊎ (c.has_table ≡ false)
+OpNamesNothing c (op.Simple (simple.ElemDrop x)) = c.elements ≤ x
+OpNamesNothing c (op.Simple simple.TableCopy) = c.has_table ≡ false
 OpNamesNothing c (op.Simple (simple.Load o a)) = c.has_memory ≡ false
 OpNamesNothing c (op.Simple (simple.Store o a)) = c.has_memory ≡ false
 OpNamesNothing c (op.Label l) = slice_get c.labels l ≡ None
@@ -408,7 +419,7 @@ IsTooDeep q items (body_op o) =
     × (AtMost q.depth (levels b.typing.0) → ⊥)
 IsTooDeep q items _ = ⊥
 
--- The meaning of a name. It covers the 14 names of the format, the twelve of rules, and the three of a policy.
+-- The meaning of a name. It covers the 15 names of the format, the twelve of rules, and the three of a policy.
 -- Nothing is claimed for `Memory`.
 abbrev pub Means : Profile → ℕ → Policy → List ℕ → List ℕ → Why → Type 0
 Means p limit q used rest why.Index = AtItem p HasNoItem used

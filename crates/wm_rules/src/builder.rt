@@ -6,7 +6,7 @@ ghost use Rattle.wm_machine.specs.Sinks.{RunsOut, Taken, Took, items_for};
 ghost use Rattle.wm_machine.specs.Items.{body, export, import_desc, new_type, start};
 ghost use Rattle.wm_rules.specs.exact.Built.{Built, after, body_ended, change_last, constant_ended};
 ghost use Rattle.wm_rules.specs.exact.Built.{constant_taken, expecting, locals_taken, name_from, nothing};
-ghost use Rattle.wm_rules.specs.exact.Built.{op_taken, valued};
+ghost use Rattle.wm_rules.specs.exact.Built.{op_taken, valued, with_elements, with_segments};
 ghost use Rattle.wm_rules.specs.inner.Builders.{built};
 ghost use Rattle.wm_syntax.specs.Instructions.{Instructions};
 ghost use Rattle.wm_syntax.specs.Values.{value_of};
@@ -21,6 +21,7 @@ use wm_syntax::modules::body_builder::{BodyBuilder, BodyFault};
 use wm_syntax::modules::locals::Locals;
 use wm_syntax::modules::{
     Element, Export, ExportKind, Function, GlobalDef, Import, ImportDesc, Module, Segment,
+    SegmentMode,
 };
 use wm_syntax::types::{Const, FuncType, GlobalType, ValType};
 use wm_syntax::why::Why;
@@ -90,10 +91,8 @@ impl fmt::Debug for Builder {
 fn push<T: Drop>(items: &mut Vec<T>, item: T) -> Result<(), Why>
     ensures { Taken (Ok (items.old.items ++ item ∷ [])) result items.new.items }
 {
-    match items.push(item) {
-        Ok(()) => Ok(()),
-        Err(_) => Err(Why::Memory),
-    }
+    items.push(item)?;
+    Ok(())
 }
 
 fn push_param(last: &mut FuncType, ty: ValType) -> Result<(), Why>
@@ -149,10 +148,8 @@ fn add_element(elements: &mut Vec<Element>, index: u32) -> Result<(), Why>
 fn extend_bytes(last: &mut Segment, bytes: &[u8]) -> Result<(), Why>
     ensures { Taken (Ok (record last.old { bytes = last.old.bytes ++ bytes.now })) result last.new }
 {
-    match last.bytes.extend_from_slice(bytes) {
-        Ok(()) => Ok(()),
-        Err(_) => Err(Why::Memory),
-    }
+    last.bytes.extend_from_slice(bytes)?;
+    Ok(())
 }
 
 // Adds bytes to the last data segment.
@@ -215,7 +212,7 @@ impl Builder {
         match item {
             Item::NewType => self.begin_type(),
             Item::Param(ty) => add_param(&mut self.module_value.types, ty),
-            Item::Results(_) => Ok(()),
+            Item::Results(_) | Item::DataCount(_) => Ok(()),
             Item::Result(ty) => add_result(&mut self.module_value.types, ty),
             Item::ImportModule(name) => set_name(self.alloc, &mut self.module_name, name),
             Item::ImportName(name) => set_name(self.alloc, &mut self.item_name, name),
@@ -232,11 +229,13 @@ impl Builder {
             Item::Export(kind, index) => self.export(kind, index),
             Item::Start(index) => self.set_start(index),
             Item::Elem(index) => self.expect(Purpose::Element(index)),
+            Item::PassiveElem => self.add_element_segment(SegmentMode::Passive),
             Item::ElemFunc(index) => add_element(&mut self.module_value.elements, index),
             Item::Body => self.begin_body(),
             Item::Locals(count, ty) => self.add_locals(count, ty),
             Item::Op(op) => self.take_op(&op),
             Item::Segment(index) => self.expect(Purpose::Segment(index)),
+            Item::PassiveSegment => self.add_segment(SegmentMode::Passive),
             Item::DataBytes(bytes) => add_bytes(&mut self.module_value.segments, bytes),
         }
     }
@@ -360,23 +359,41 @@ impl Builder {
                 &mut self.module_value.globals,
                 GlobalDef { ty, init: value },
             ),
-            Purpose::Element(table) => {
-                let element = Element {
-                    table,
-                    offset: value,
-                    functions: Vec::new(self.alloc),
-                };
-                push(&mut self.module_value.elements, element)
+            Purpose::Element(index) => {
+                let offset = value;
+                self.add_element_segment(SegmentMode::Active { index, offset })
             }
-            Purpose::Segment(memory) => {
-                let segment = Segment {
-                    memory,
-                    offset: value,
-                    bytes: Vec::new(self.alloc),
-                };
-                push(&mut self.module_value.segments, segment)
+            Purpose::Segment(index) => {
+                let offset = value;
+                self.add_segment(SegmentMode::Active { index, offset })
             }
         }
+    }
+
+    // Adds an element segment without functions. These come later.
+    fn add_element_segment(&mut self, mode: SegmentMode) -> Result<(), Why>
+        ensures { Taken (Ok (with_elements (built self.old)
+            ((built self.old).value.elements ++ record { mode = mode; functions = [] } ∷ []))) result
+            (built self.new) }
+    {
+        let element = Element {
+            mode,
+            functions: Vec::new(self.alloc),
+        };
+        push(&mut self.module_value.elements, element)
+    }
+
+    // Adds a data segment without bytes. These come later.
+    fn add_segment(&mut self, mode: SegmentMode) -> Result<(), Why>
+        ensures { Taken (Ok (with_segments (built self.old)
+            ((built self.old).value.segments ++ record { mode = mode; bytes = [] } ∷ []))) result
+            (built self.new) }
+    {
+        let segment = Segment {
+            mode,
+            bytes: Vec::new(self.alloc),
+        };
+        push(&mut self.module_value.segments, segment)
     }
 
     fn begin_body(&mut self) -> Result<(), Why>

@@ -22,7 +22,7 @@ use Rattle.wm_stacks.specs.exact.Stacks.{push, open_frame, count_after_move, pop
 use Rattle.wm_typing.specs.declared.labels.BrTable.{BrTable}
 use Rattle.wm_typing.specs.Typing.{Context, function_type}
 use Rattle.wm_typing.specs.exact.OperandTypes.{entry_of_type, join}
-use Rattle.wm_typing.specs.exact.Effects.{Effect, fixed, indirect, is_polymorphic, drops, selects, ill, effect_of, with_item, where_true, access_effect}
+use Rattle.wm_typing.specs.exact.Effects.{Effect, fixed, indirect, is_polymorphic, drops, selects, ill, effect_of, with_item, where_true, access_effect, bulk_effect, table_effect}
 use Rattle.wm_typing.specs.OpenLists.{at}
 use Rattle.wm_typing.specs.exact.Ops.{push_all, after_call, drive_fixed, drive_indirect, drive_diverges, drive_drop, push_joined, select_from, drive, drive_close, else_of, drive_else, may_end, give_to, end_of, drive_end, drive_if, drive_count, with_table, goes_with, drive_known, drive_label, labels_of, within_frames, drive_op}
 use Rattle.wm_typing.specs.Bodies.{BodyState}
@@ -291,6 +291,13 @@ small c s.MemorySize h = small_where why.Index c.has_memory (fixed [] (I32 ∷ [
 small c s.MemoryGrow h = small_where why.Index c.has_memory (fixed (I32 ∷ []) (I32 ∷ [])) tt
 small c s.MemoryCopy h = small_where why.Index c.has_memory (fixed (I32 ∷ I32 ∷ I32 ∷ []) []) tt
 small c s.MemoryFill h = small_where why.Index c.has_memory (fixed (I32 ∷ I32 ∷ I32 ∷ []) []) tt
+small c (s.MemoryInit x) h =
+    small_where why.Index (nat_lt x c.segments) (bulk_effect c) (small_where why.Index c.has_memory (fixed (I32 ∷ I32 ∷ I32 ∷ []) []) tt)
+small c (s.DataDrop x) h = small_where why.Index (nat_lt x c.segments) (fixed [] []) tt
+small c (s.TableInit x) h =
+    small_where why.Index (nat_lt x c.elements) (table_effect c) (small_where why.Index c.has_table (fixed (I32 ∷ I32 ∷ I32 ∷ []) []) tt)
+small c (s.ElemDrop x) h = small_where why.Index (nat_lt x c.elements) (fixed [] []) tt
+small c s.TableCopy h = small_where why.Index c.has_table (fixed (I32 ∷ I32 ∷ I32 ∷ []) []) tt
 small c (s.I32Const n) h = tt
 small c (s.I64Const n) h = tt
 small c (s.F32Const n) h = tt

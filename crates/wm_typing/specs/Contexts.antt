@@ -7,13 +7,15 @@ use Rattle.wm_syntax.specs.Types.{Signature}
 use Rattle.wm_typing.specs.Typing.{Context}
 
 -- The context that the functions of a module share. It has no locals, labels and result, since no body is open.
-abbrev pub context : List Signature → List ℕ → List GlobalType → Bool → Bool → Context
-context types functions globals table memory = record {
+abbrev pub context : List Signature → List ℕ → List GlobalType → Bool → Bool → ℕ → ℕ → Context
+context types functions globals table memory elements segments = record {
   types = types;
   functions = functions;
   globals = globals;
   has_table = table;
   has_memory = memory;
+  elements = elements;
+  segments = segments;
   locals = [];
   labels = [];
   result = None;

@@ -1,6 +1,7 @@
 -- The state of a builder, and its state after each item, refusals included. It follows the code exactly. The
 -- law `items_build_their_module` states that the items of a module build it.
 use Rattle.std.specs.Prelude.{ℕ, List, [], ◌∷◌, ◌++◌, Option, Some, None, Result, Ok, Err, length, slice_get}
+use Rattle.wm_syntax.specs.declared.modules.SegmentMode.TheVariants.{Passive, Active}
 use Rattle.std.specs.Prelude.{unwrap_or, if◌then◌else◌}
 use Rattle.std.specs.Str.{is_utf8}
 use Rattle.wm_syntax.specs.declared.types.ValType.{ValType}
@@ -25,7 +26,9 @@ use Rattle.wm_rules.specs.declared.builder.Pending.{Pending}
 use Rattle.wm_syntax.specs.exact.Runs.{add_run}
 use Rattle.wm_machine.specs.Items.{Item, new_type, param, result_count, one_result, import_module, import_name}
 use Rattle.wm_machine.specs.Items.{import_desc, function, table, memory, global, const_op, export_name, export}
-use Rattle.wm_machine.specs.Items.{start, element, element_function, body, locals, body_op, segment, data_byte}
+use Rattle.wm_machine.specs.Items.{start, element, element_function, data_count, body, locals, body_op, segment}
+use Rattle.wm_machine.specs.Items.{passive_element, passive_segment}
+use Rattle.wm_machine.specs.Items.{data_byte}
 use Rattle.wm_machine.specs.Sinks.{and_then}
 
 -- A code entry at hand: its locals, and its body so far.
@@ -102,10 +105,10 @@ valued c h k (Some d) = Err why.Arity
 abbrev pub member_added : Purpose → Const → Module → Module
 member_added (purpose.Global g) c m = record m { globals = m.globals ++ record { ty = g; init = c } ∷ [] }
 member_added (purpose.Element x) c m = record m {
-  elements = m.elements ++ record { table = x; offset = c; functions = [] } ∷ [];
+  elements = m.elements ++ record { mode = Active x c; functions = [] } ∷ [];
 }
 member_added (purpose.Segment x) c m = record m {
-  segments = m.segments ++ record { memory = x; offset = c; bytes = [] } ∷ [];
+  segments = m.segments ++ record { mode = Active x c; bytes = [] } ∷ [];
 }
 
 abbrev pub constant_ended : Built → Pending → Option Const → Result Built Why
@@ -189,11 +192,16 @@ after h (export k x) = Ok (record h {
 })
 after h (start x) = Ok (record h { value = record h.value { start = Some x } })
 after h (element x) = Ok (expecting (purpose.Element x) h)
+after h passive_element =
+    Ok (with_elements h (h.value.elements ++ record { mode = Passive; functions = [] } ∷ []))
 after h (element_function y) =
     Ok (with_elements h (change_last (λ e. record e { functions = e.functions ++ y ∷ [] }) h.value.elements))
+after h (data_count n) = Ok h
 after h body = Ok (record h { code = Some (record { locals = []; body = building.start }) })
 after h (locals n t) = locals_taken n t h h.code
 after h (body_op o) = op_taken o h h.code
 after h (segment x) = Ok (expecting (purpose.Segment x) h)
+after h passive_segment =
+    Ok (with_segments h (h.value.segments ++ record { mode = Passive; bytes = [] } ∷ []))
 after h (data_byte c) =
     Ok (with_segments h (change_last (λ s. record s { bytes = s.bytes ++ c ∷ [] }) h.value.segments))

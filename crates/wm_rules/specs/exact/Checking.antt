@@ -23,13 +23,15 @@ use Rattle.wm_typing.specs.Typing.{function_type}
 use Rattle.wm_typing.specs.exact.Bodies.{body_at_start, declared_more, progress_at, body_after_op}
 use Rattle.wm_machine.specs.Items.{Item, new_type, param, result_count, one_result, import_module, import_name}
 use Rattle.wm_machine.specs.Items.{import_desc, function, table, memory, global, const_op, export_name, export}
-use Rattle.wm_machine.specs.Items.{start, element, element_function, body, locals, body_op, segment, data_byte}
+use Rattle.wm_machine.specs.Items.{start, element, element_function, data_count, body, locals, body_op, segment}
+use Rattle.wm_machine.specs.Items.{passive_element, passive_segment}
+use Rattle.wm_machine.specs.Items.{data_byte}
 use Rattle.wm_machine.specs.Sinks.{and_then}
 use Rattle.wm_rules.specs.declared.checker.Summary.{Summary}
 use Rattle.wm_rules.specs.declared.constants.Constant.{Constant}
 use Rattle.wm_rules.specs.exact.Spaces.{no_items, context_of, type_begun, param_added, result_added}
 use Rattle.wm_rules.specs.exact.Spaces.{function_added, global_added, table_added, memory_added, import_added}
-use Rattle.wm_rules.specs.exact.Spaces.{index_check, plain, next_type}
+use Rattle.wm_rules.specs.exact.Spaces.{index_check, plain, next_type, element_counted, segments_counted}
 use Rattle.wm_rules.specs.Holding.{IndexSpaces, Held}
 use Rattle.wm_rules.specs.exact.Constants.{constant_after, constant_expecting}
 
@@ -81,6 +83,10 @@ global_begun g h = in_spaces (constant_begun g.ty h.spaces.imported_globals h) (
 abbrev pub offset_begun : ExportKind → ℕ → Held → Result Held Why
 offset_begun k x h =
     and_then (index_check k x h.spaces) (λ u. Ok (constant_begun I32 (length h.spaces.globals) h))
+
+-- The state with one more element segment.
+abbrev pub with_element : Held → Held
+with_element h = record h { spaces = element_counted h.spaces }
 
 abbrev pub with_constant : Held → Result (Option Constant) Why → Result Held Why
 with_constant h (Ok k) = Ok (record h { constant = k })
@@ -157,10 +163,13 @@ after h (const_op o) = in_constant o h h.constant
 after h (export_name name) = in_names h (names_with name h.names)
 after h (export k x) = where_ok h (index_check k x h.spaces)
 after h (start x) = where_ok h (plain (function_type (context_of h.spaces) x))
-after h (element x) = offset_begun kind.Table x h
+after h (element x) = offset_begun kind.Table x (with_element h)
+after h passive_element = Ok (with_element h)
 after h (element_function x) = where_ok h (index_check kind.Func x h.spaces)
+after h (data_count n) = Ok (record h { spaces = segments_counted n h.spaces })
 after h body = body_begun h (next_type h.spaces)
 after h (locals n t) = locals_added n t h
 after h (body_op o) = op_taken o h
 after h (segment x) = offset_begun kind.Memory x h
+after h passive_segment = Ok h
 after h (data_byte c) = Ok h

@@ -27,6 +27,8 @@ no_items = record {
   bodies = 0;
   has_table = false;
   has_memory = false;
+  elements = 0;
+  segments = 0;
 }
 
 -- The invariant of the index spaces, at any moment of any module.
@@ -38,7 +40,7 @@ pub record AreSpaces (types : List Signature) (functions : List ℕ) (globals : 
 
 -- The context in which a module's bodies are typed.
 abbrev pub context_of : IndexSpaces → Context
-context_of s = context s.types s.functions s.globals s.has_table s.has_memory
+context_of s = context s.types s.functions s.globals s.has_table s.has_memory s.elements s.segments
 
 -- The list with its last item changed; `Index` if there is none.
 abbrev pub on_last : {X : Type 0} → (X → Result X Why) → List X → Result (List X) Why
@@ -101,6 +103,14 @@ abbrev pub memory_added : Limits → IndexSpaces → Result IndexSpaces Why
 memory_added l s =
     if s.has_memory then Err why.Second
     else (if is_within (2 ^ 16) l then Ok (record s { has_memory = true }) else Err why.Limits)
+
+-- One more element segment.
+abbrev pub element_counted : IndexSpaces → IndexSpaces
+element_counted s = record s { elements = s.elements + 1 }
+
+-- The number of data segments that the data count section gives.
+abbrev pub segments_counted : ℕ → IndexSpaces → IndexSpaces
+segments_counted n s = record s { segments = n }
 
 abbrev pub import_added : ImportDesc → IndexSpaces → Result IndexSpaces Why
 import_added (desc.Func x) s = function_imported x s

@@ -1,7 +1,7 @@
 -- The effect of a simple instruction on the operands, as a function of the context; `ill` with the refusal if
 -- it has none. It follows the code exactly, for the layers above. No promise rests on it alone: see `Typing`.
 use Rattle.std.specs.Prelude.{ℕ, ◌^◌, Bool, true, false, List, [], ◌∷◌, ◌++◌, Option, Some, None, slice_get}
-use Rattle.std.specs.Prelude.{option_to_list, nat_le}
+use Rattle.std.specs.Prelude.{option_to_list, nat_le, nat_lt}
 use Rattle.wm_syntax.specs.declared.types.ValType.{ValType}
 use Rattle.wm_syntax.specs.declared.types.ValType.TheVariants.{I32, I64, F32, F64}
 use Rattle.wm_syntax.specs.declared.why.Why.{Why}
@@ -11,7 +11,8 @@ use Rattle.wm_syntax.specs.declared.instructions.Simple.TheVariants.{Unreachable
 use Rattle.wm_syntax.specs.declared.instructions.Simple.TheVariants.{Br, BrIf, Call, CallIndirect, LocalGet}
 use Rattle.wm_syntax.specs.declared.instructions.Simple.TheVariants.{LocalSet, LocalTee, GlobalGet, GlobalSet}
 use Rattle.wm_syntax.specs.declared.instructions.Simple.TheVariants.{MemorySize, MemoryGrow, I32Const}
-use Rattle.wm_syntax.specs.declared.instructions.Simple.TheVariants.{MemoryCopy, MemoryFill}
+use Rattle.wm_syntax.specs.declared.instructions.Simple.TheVariants.{MemoryCopy, MemoryFill, MemoryInit, DataDrop}
+use Rattle.wm_syntax.specs.declared.instructions.Simple.TheVariants.{TableInit, ElemDrop, TableCopy}
 use Rattle.wm_syntax.specs.declared.instructions.Simple.TheVariants.{I64Const, F32Const, F64Const, Load}
 use Rattle.wm_syntax.specs.declared.instructions.Simple.TheVariants.{Store, Numeric}
 use Rattle.wm_syntax.specs.Opcodes.{numeric, load, store}
@@ -54,8 +55,25 @@ abbrev pub global_set_effect : Context → ℕ → Effect
 global_set_effect c x =
     with_item (slice_get c.globals x) (λ g. where_true why.Immutable g.var (fixed (g.ty ∷ []) []))
 
+-- The effect of an instruction over a range of the memory or the table; `there` says whether the module has it.
+abbrev pub range_effect : Bool → Effect
+range_effect there = where_true why.Index there (fixed (I32 ∷ I32 ∷ I32 ∷ []) [])
+
 abbrev pub bulk_effect : Context → Effect
-bulk_effect c = where_true why.Index c.has_memory (fixed (I32 ∷ I32 ∷ I32 ∷ []) [])
+bulk_effect c = range_effect c.has_memory
+
+abbrev pub table_effect : Context → Effect
+table_effect c = range_effect c.has_table
+
+-- The effect of an instruction that names the segment `x` of `n`.
+abbrev pub with_segment : ℕ → ℕ → Effect → Effect
+with_segment n x s = where_true why.Index (nat_lt x n) s
+
+abbrev pub init_effect : Context → ℕ → Effect
+init_effect c x = with_segment c.segments x (bulk_effect c)
+
+abbrev pub table_init_effect : Context → ℕ → Effect
+table_init_effect c x = with_segment c.elements x (table_effect c)
 
 abbrev pub effect_of : Context → Simple → Effect
 effect_of c Unreachable = is_polymorphic []
@@ -77,6 +95,11 @@ effect_of c MemorySize = where_true why.Index c.has_memory (fixed [] (I32 ∷ []
 effect_of c MemoryGrow = where_true why.Index c.has_memory (fixed (I32 ∷ []) (I32 ∷ []))
 effect_of c MemoryCopy = bulk_effect c
 effect_of c MemoryFill = bulk_effect c
+effect_of c (MemoryInit x) = init_effect c x
+effect_of c (DataDrop x) = with_segment c.segments x (fixed [] [])
+effect_of c (TableInit x) = table_init_effect c x
+effect_of c (ElemDrop x) = with_segment c.elements x (fixed [] [])
+effect_of c TableCopy = table_effect c
 effect_of c (I32Const n) = fixed [] (I32 ∷ [])
 effect_of c (I64Const n) = fixed [] (I64 ∷ [])
 effect_of c (F32Const n) = fixed [] (F32 ∷ [])

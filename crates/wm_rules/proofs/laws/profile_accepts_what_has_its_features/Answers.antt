@@ -5,4 +5,4 @@ pub returns-clause-more : goal.returns-clause-more
 returns-clause-more c = λ p r limit q bytes more a. accepted_with_items p r limit q bytes more a
 
 pub returns-clause-less : goal.returns-clause-less
-returns-clause-less c = λ p r limit q bytes more alike b v is spelled own. accepted_by_items p r limit q bytes more alike b v is spelled own
+returns-clause-less c = λ p r limit q bytes more alike fronts b v is spelled own. accepted_by_items p r limit q bytes more alike fronts b v is spelled own
