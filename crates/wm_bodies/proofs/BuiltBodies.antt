@@ -9,7 +9,7 @@ use Rattle.wm_syntax.specs.inner.Building.{Open, in_block, in_loop, in_first, in
 use Rattle.wm_syntax.proofs.Places.{after_append}
 use Rattle.wm_tokens.specs.Tokens.{Token}
 use Rattle.wm_tokens.specs.Written.{Scope}
-use Rattle.wm_bodies.specs.declared.blocks.BlockKeyword.TheVariants.{Block, Loop, If}
+use Rattle.wm_syntax.specs.declared.instructions.op_class.BlockOp.TheVariants.{Block, Loop, If}
 use Rattle.wm_bodies.specs.inner.Bodies.{CanTake, is_first, IsOver}
 use Rattle.wm_bodies.specs.inner.Pieces.{Opened, Piece, plain, jump, opens, middle, closes, after, piece_ops, WritesPiece}
 use Rattle.wm_tokens.proofs.Basics.{same_head, same_tail}

@@ -6,6 +6,7 @@ use Rattle.wm_tokens.specs.Tokens.{IsUnsigned, IsIdentifier}
 use Rattle.wm_tokens.specs.exact.Scan.{magnitude_of}
 use Rattle.wm_tokens.proofs.Basics.{chosen, same_some}
 use Rattle.wm_tokens.proofs.Atoms.{magnitude_more, magnitude_found}
+use Rattle.wm_tokens.specs.Written.{UnsignedNumber}
 use Rattle.wm_tokens.specs.Identifiers.{Id, Ids, AreDistinct, IsIndex, IsLabel, Resolves, ResolvesLabel}
 use Rattle.wm_bodies.specs.exact.Reading.{same_bytes, atom_at, unsigned_of, is_id, place_of, index_of}
 use Rattle.wm_bodies.proofs.Readers.{Sound, Complete, Any, bind_ok, bind_is, same_is, is_same, atom_sound, atom_complete}
@@ -109,6 +110,12 @@ index_found ids a x e = by (label_found ids a x e)
 pub index_more : (ids : Ids) → AreDistinct ids → (a : List ℕ) (x : ℕ) → IsIndex ids x a → index_of ids a ≡ Some x
 index_more ids d a x (lt, inl h) = label_more ids a x (lt, inl h)
 index_more ids d a x (lt, inr (i, e)) = label_more ids a x (lt, inr (i, e, distinct_nearest ids a x d e))
+
+pub number_sound : Sound (atom_at unsigned_of) UnsignedNumber
+number_sound = atom_sound unsigned_of (IsUnsigned 32) unsigned_found
+
+pub number_complete : Complete (atom_at unsigned_of) UnsignedNumber Any
+number_complete = atom_complete unsigned_of (IsUnsigned 32) unsigned_more
 
 pub index_sound : (ids : Ids) → Sound (atom_at (index_of ids)) (Resolves ids)
 index_sound ids = atom_sound (index_of ids) (λ x a. IsIndex ids x a) (index_found ids)

@@ -13,11 +13,12 @@ use Rattle.std.specs.List.{AllByRecursion}
 use Rattle.wm_syntax.specs.Profiles.{HasInstructions, IsOpOf}
 use Rattle.wm_syntax.proofs.ProfileLaws.{all_append, by_ops, labels_of}
 use Rattle.wm_tokens.specs.Tokens.{Token}
-use Rattle.wm_bodies.specs.declared.blocks.BlockKeyword.{BlockKeyword}
-use Rattle.wm_bodies.specs.declared.blocks.BlockKeyword.TheVariants.{Block, Loop, If}
+use Rattle.wm_syntax.specs.declared.instructions.op_class.BlockOp.{BlockOp}
+use Rattle.wm_syntax.specs.declared.instructions.op_class.BlockOp.TheVariants.{Block, Loop, If}
 use Rattle.wm_tokens.specs.Identifiers.{Id}
 use Rattle.wm_tokens.specs.Written.{Scope, WritesInstruction, WritesInstructions, WritesElse, Opens, Closes}
-use Rattle.wm_bodies.specs.inner.Pieces.{Open, Opened, labels, Piece, plain, jump, opens, middle, closes, after, piece_ops, pieces_ops, opening_word, opening_op, is_if, IsPieceOf, WritesPiece, WritesPieces, WritesOps}
+use Rattle.wm_bodies.specs.inner.Pieces.{Open, Opened, labels, Piece, plain, jump, opens, middle, closes, after, piece_ops, pieces_ops, opening_word, is_if, IsPieceOf, WritesPiece, WritesPieces, WritesOps}
+use Rattle.wm_syntax.specs.exact.OpShapes.{block_op}
 
 abbrev opened : Id → Bool → Open
 opened id b = record { id = id; may_else = b }
@@ -25,7 +26,7 @@ opened id b = record { id = id; may_else = b }
 -- An open list around others: the block that opened the next list, and the instructions before it. For an if with an
 -- open second list, it also has the first list.
 pub data Frame : Type 0 where
-  frame : BlockKeyword → Id → Option ValType → Instructions → Frame
+  frame : BlockOp → Id → Option ValType → Instructions → Frame
   second : Id → Option ValType → Instructions → Instructions → Frame
 
 abbrev pub open_of : Frame → Open
@@ -35,7 +36,7 @@ open_of (second id t s first) = opened id false
 abbrev pub blocks : List Frame → Opened
 blocks fs = map open_of fs
 
-abbrev pub one_block : BlockKeyword → Option ValType → Instructions → Instruction
+abbrev pub one_block : BlockOp → Option ValType → Instructions → Instruction
 one_block Block t s = block t s
 one_block Loop t s = loop t s
 one_block If t s = choice t s none
@@ -68,7 +69,7 @@ Nests bs (q ∷ ps) = Fits bs q × Nests (after bs q) ps
 pub record Grammar (A : Type 0) : Type 1 where
   pub list : Opened → Instructions → Form A
   pub one : Opened → Instruction → Form A
-  pub begin : BlockKeyword → Id → Option ValType → Form A
+  pub begin : BlockOp → Id → Option ValType → Form A
   pub divide : Id → Form A
   pub finish : Id → Form A
   pub piece : Opened → Piece → Form A
@@ -76,10 +77,10 @@ pub record Grammar (A : Type 0) : Type 1 where
   pub more : (bs : Opened) (s : Instructions) (i : Instruction) (x y : List A) → list bs s x → one bs i y → list bs (snoc s i) (x ++ y)
   pub plain_is : (bs : Opened) (i : Simple) (x : List A) → piece bs (plain i) x → one bs (simple i) x
   pub jump_is : (bs : Opened) (ls : List ℕ) (l : ℕ) (x : List A) → piece bs (jump ls l) x → one bs (table ls l) x
-  pub opens_is : (bs : Opened) (o : BlockKeyword) (id : Id) (t : Option ValType) (x : List A) → piece bs (opens o id t) x → begin o id t x
+  pub opens_is : (bs : Opened) (o : BlockOp) (id : Id) (t : Option ValType) (x : List A) → piece bs (opens o id t) x → begin o id t x
   pub middle_is : (b : Open) (bs : Opened) (x : List A) → piece (b ∷ bs) middle x → divide b.id x
   pub closes_is : (b : Open) (bs : Opened) (x : List A) → piece (b ∷ bs) closes x → finish b.id x
-  pub block_is : (bs : Opened) (o : BlockKeyword) (id : Id) (t : Option ValType) (s : Instructions) (x u v : List A)
+  pub block_is : (bs : Opened) (o : BlockOp) (id : Id) (t : Option ValType) (s : Instructions) (x u v : List A)
       → begin o id t x → list (opened id (is_if o) ∷ bs) s u → finish id v → one bs (one_block o t s) (x ++ (u ++ v))
   pub choice_is : (bs : Opened) (id : Id) (t : Option ValType) (s r : Instructions) (x u y w v : List A)
       → begin If id t x → list (opened id true ∷ bs) s u → divide id y → list (opened id false ∷ bs) r w → finish id v → one bs (choice t s r) (x ++ (u ++ ((y ++ w) ++ v)))
@@ -164,7 +165,7 @@ module _ {A : Type 0} (g : Grammar A) where
 abbrev text_divide : Id → Form Token
 text_divide id = Closes (codes "else") id
 
-written_block : (sc : Scope) (bs : Opened) (o : BlockKeyword) (id : Id) (t : Option ValType) (s : Instructions) (x u v : List Token)
+written_block : (sc : Scope) (bs : Opened) (o : BlockOp) (id : Id) (t : Option ValType) (s : Instructions) (x u v : List Token)
     → Opens (opening_word o) id t x → WritesInstructions sc (id ∷ labels bs) s u → Closes (codes "end") id v → WritesInstruction sc (labels bs) (one_block o t s) (x ++ (u ++ v))
 written_block sc bs Block id t s x u v a b c = (id, (x, u ++ v, refl, a, (u, v, refl, b, c)))
 written_block sc bs Loop id t s x u v a b c = (id, (x, u ++ v, refl, a, (u, v, refl, b, c)))
@@ -194,7 +195,7 @@ text_grammar sc = record {
   choice_is = λ bs id t s r x u y w v a b c d e. (id, (x, u ++ ((y ++ w) ++ v), refl, a, (u, (y ++ w) ++ v, refl, b, (y ++ w, v, refl, written_else sc bs id r y w c d, e))));
 }
 
-flat_block : (o : BlockKeyword) (t : Option ValType) (s : Instructions) (x u v : List Op) → x ≡ opening_op o t ∷ [] → HasOps s u → v ≡ op.End ∷ [] → HasOp (one_block o t s) (x ++ (u ++ v))
+flat_block : (o : BlockOp) (t : Option ValType) (s : Instructions) (x u v : List Op) → x ≡ block_op o t ∷ [] → HasOps s u → v ≡ op.End ∷ [] → HasOp (one_block o t s) (x ++ (u ++ v))
 flat_block Block t s x u v a b c = (x, u ++ v, refl, a, (u, v, refl, b, c))
 flat_block Loop t s x u v a b c = (x, u ++ v, refl, a, (u, v, refl, b, c))
 flat_block If t s x u v a b c = (x, u ++ v, refl, a, (u, v, refl, b, ([], v, refl, inr refl, c)))
@@ -207,7 +208,7 @@ pub op_grammar : Grammar Op
 op_grammar = record {
   list = λ bs s. HasOps s;
   one = λ bs i. HasOp i;
-  begin = λ o id t x. x ≡ opening_op o t ∷ [];
+  begin = λ o id t x. x ≡ block_op o t ∷ [];
   divide = λ id x. x ≡ op.Else ∷ [];
   finish = λ id x. x ≡ op.End ∷ [];
   piece = λ bs q x. x ≡ piece_ops q;

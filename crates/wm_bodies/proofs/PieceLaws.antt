@@ -20,6 +20,10 @@ use Rattle.wm_syntax.specs.declared.instructions.Op.TheVariants as op
 use Rattle.wm_syntax.specs.declared.instructions.Simple.{Simple}
 use Rattle.wm_syntax.specs.declared.instructions.Simple.TheVariants as s
 use Rattle.wm_syntax.specs.declared.instructions.op_class.Immediates.{Immediates}
+use Rattle.wm_syntax.specs.declared.instructions.op_class.LoadOrStore.TheVariants as accesses
+use Rattle.wm_syntax.specs.declared.instructions.op_class.MemoryOp.TheVariants as memory
+use Rattle.wm_syntax.specs.declared.instructions.op_class.BlockOp.TheVariants as opening
+use Rattle.wm_syntax.specs.declared.instructions.op_class.Indexed.TheVariants as indexed
 use Rattle.wm_syntax.specs.declared.instructions.op_class.Immediates.TheVariants as k
 use Rattle.wm_syntax.specs.declared.instructions.op_class.OpClass.{OpClass}
 use Rattle.wm_syntax.specs.declared.instructions.op_class.OpClass.TheVariants as class
@@ -29,19 +33,19 @@ use Rattle.wm_syntax.specs.OpClasses.{class_of, IsClassOfOp}
 use Rattle.wm_syntax.specs.Profiles.{HasBlockType, HasSimple, IsOpOf}
 use Rattle.wm_tokens.specs.Tokens.{Token, open_paren, close_paren, string, atom, is_lower}
 use Rattle.wm_tokens.proofs.Basics.{chosen, same_some}
-use Rattle.wm_bodies.specs.declared.blocks.BlockKeyword.{BlockKeyword}
-use Rattle.wm_bodies.specs.declared.blocks.BlockKeyword.TheVariants.{Block, Loop, If}
+use Rattle.wm_syntax.specs.declared.instructions.op_class.BlockOp.{BlockOp}
+use Rattle.wm_syntax.specs.declared.instructions.op_class.BlockOp.TheVariants.{Block, Loop, If}
 use Rattle.wm_tokens.specs.Identifiers.{Id, Ids, AreDistinct, WritesId, Resolves, ResolvesLabel}
 use Rattle.wm_syntax.specs.OpNames.{op_name}
 use Rattle.wm_syntax.specs.exact.NameTable.{class_named, immediates_name}
 use Rattle.wm_syntax.proofs.NamedOps.{found_named, only_named}
-use Rattle.wm_tokens.specs.Written.{Names, Scope, UnnamedTypeUse, WritesOperand, WritesBlockType, WritesInteger, WritesFloat, WritesAccess}
+use Rattle.wm_tokens.specs.Written.{Names, Scope, UnnamedTypeUse, UnsignedNumber, WritesOperand, WritesBlockType, WritesInteger, WritesFloat, WritesAccess}
 use Rattle.wm_floats.specs.exact.Atoms.{float_of}
 use Rattle.wm_bodies.proofs.Floats.{float_sound, float_complete}
 use Rattle.wm_bodies.specs.inner.Pieces.{Opened, labels, Piece, plain, jump, opens, middle, closes, opening_word, IsPieceOf, WritesPiece}
-use Rattle.wm_bodies.specs.exact.Reading.{Reader, atom_at, index_of, integer_of, then_at, id_at, is_id, is_word, after_key, access_at, block_type_at, again_at, split_last, labels_at, table_of, table_at, middle_at, closes_at, simple_at, opens_at, kind_at, class_at, piece_at}
+use Rattle.wm_bodies.specs.exact.Reading.{Reader, atom_at, unsigned_of, index_of, integer_of, then_at, id_at, is_id, is_word, after_key, access_at, block_type_at, again_at, split_last, labels_at, table_of, table_at, middle_at, closes_at, simple_at, opens_at, kind_at, class_at, piece_at}
 use Rattle.wm_bodies.proofs.Readers.{Sound, Complete, Both, bind_ok, bind_is, then_sound, then_complete, made_sound, made_is}
-use Rattle.wm_bodies.proofs.Indices.{index_sound, index_complete, label_sound, label_complete}
+use Rattle.wm_bodies.proofs.Indices.{index_sound, index_complete, label_sound, label_complete, number_sound, number_complete}
 use Rattle.wm_bodies.proofs.Immediates.{integer_sound, integer_complete, NoKeys, access_sound, access_complete, NotId, id_sound, id_complete, NotOpen, OfBlockType, block_type_sound, block_type_complete, IsName, Again, again_sound, again_complete, closes_again, again_closes, NotIndex, labels_sound, labels_complete}
 
 -- ---- a piece's word, and what follows it
@@ -53,14 +57,14 @@ piece_word (opens o id t) = opening_word o
 piece_word middle = codes "else"
 piece_word closes = codes "end"
 
-abbrev pub opening_class : BlockKeyword → OpClass
-opening_class Block = class.With k.Block
-opening_class Loop = class.With k.Loop
-opening_class If = class.With k.If
+abbrev pub opening_class : BlockOp → OpClass
+opening_class Block = class.With (k.Block opening.Block)
+opening_class Loop = class.With (k.Block opening.Loop)
+opening_class If = class.With (k.Block opening.If)
 
 abbrev pub piece_class : Piece → OpClass
 piece_class (plain i) = class_of (op.Simple i)
-piece_class (jump ls l) = class.With k.BrTable
+piece_class (jump ls l) = class.With (k.Index indexed.BrTable)
 piece_class (opens o id t) = opening_class o
 piece_class middle = class.Plain op.Else
 piece_class closes = class.Plain op.End
@@ -192,6 +196,11 @@ IsFree (s.Load o at) = ⊥
 IsFree (s.Store o at) = ⊥
 IsFree s.MemoryCopy = ⊥
 IsFree s.MemoryFill = ⊥
+IsFree (s.MemoryInit x) = ⊥
+IsFree (s.DataDrop x) = ⊥
+IsFree (s.TableInit x) = ⊥
+IsFree (s.ElemDrop x) = ⊥
+IsFree s.TableCopy = ⊥
 IsFree _ = Unit {0}
 
 free : (p : Profile) (i : Simple) → IsFree i → HasSimple p i
@@ -203,6 +212,11 @@ free p (s.Load o at) h = absurd h
 free p (s.Store o at) h = absurd h
 free p s.MemoryCopy h = absurd h
 free p s.MemoryFill h = absurd h
+free p (s.MemoryInit x) h = absurd h
+free p (s.DataDrop x) h = absurd h
+free p (s.TableInit x) h = absurd h
+free p (s.ElemDrop x) h = absurd h
+free p s.TableCopy h = absurd h
 free p _ h = refl
 
 -- whether a profile has an access does not depend on its place
@@ -220,10 +234,15 @@ store_all p _ at h a = refl
 abbrev KindOf : Profile → Immediates → Type 0
 KindOf p k.F32Const = (n : ℕ) → HasSimple p (s.F32Const n)
 KindOf p k.F64Const = (n : ℕ) → HasSimple p (s.F64Const n)
-KindOf p (k.Load o) = (at : MemArg) → HasSimple p (s.Load o at)
-KindOf p (k.Store o) = (at : MemArg) → HasSimple p (s.Store o at)
-KindOf p k.MemoryCopy = HasSimple p s.MemoryCopy
-KindOf p k.MemoryFill = HasSimple p s.MemoryFill
+KindOf p (k.Access (accesses.Load o)) = (at : MemArg) → HasSimple p (s.Load o at)
+KindOf p (k.Access (accesses.Store o)) = (at : MemArg) → HasSimple p (s.Store o at)
+KindOf p (k.Memory memory.MemoryCopy) = HasSimple p s.MemoryCopy
+KindOf p (k.Memory memory.MemoryFill) = HasSimple p s.MemoryFill
+KindOf p k.MemoryInit = (x : ℕ) → HasSimple p (s.MemoryInit x)
+KindOf p (k.Index indexed.DataDrop) = (x : ℕ) → HasSimple p (s.DataDrop x)
+KindOf p k.TableInit = (x : ℕ) → HasSimple p (s.TableInit x)
+KindOf p (k.Index indexed.ElemDrop) = (x : ℕ) → HasSimple p (s.ElemDrop x)
+KindOf p k.TableCopy = HasSimple p s.TableCopy
 KindOf p _ = Unit {0}
 
 pub piece_named : (p : Profile) (q : Piece) → IsPieceOf p q → class_named p (piece_word q) ≡ piece_class q
@@ -376,7 +395,7 @@ module _ (use_at : Reader ℕ) (sc : Scope) (use_sound : Sound use_at (UnnamedTy
       let u = same_some (plain i, k) (q, rest) is in
       ([], ap (λ (z : Piece × List Token). z.1) u, subst (λ (z : Piece × List Token). Headed w z.0 []) u (e, h, g))
 
-  opens_sound : (o : BlockKeyword) → Sound (opens_at p o) (Headed (opening_word o))
+  opens_sound : (o : BlockOp) → Sound (opens_at p o) (Headed (opening_word o))
   opens_sound o = made_sound (λ x. opens o x.0 x.1) (then_at id_at (block_type_at p)) (Both WritesId (OfBlockType p)) (Headed (opening_word o))
       (then_sound id_at (block_type_at p) WritesId (OfBlockType p) id_sound (block_type_sound p)) (λ x front h. (refl, (h.0, h.1, h.2, h.3, h.4.0), h.4.1))
 
@@ -385,66 +404,76 @@ module _ (use_at : Reader ℕ) (sc : Scope) (use_sound : Sound use_at (UnnamedTy
 
   kind_sound : (kind : Immediates) (w : List ℕ) → immediates_name kind ≡ w → KindOf p kind → Sound (kind_at use_at p sc bs kind) (Headed w)
   unfolding IsFree
-  kind_sound k.Block w e of = headed_to (codes "block") w (opens_at p Block) e (opens_sound Block)
-  kind_sound k.Loop w e of = headed_to (codes "loop") w (opens_at p Loop) e (opens_sound Loop)
-  kind_sound k.If w e of = headed_to (codes "if") w (opens_at p If) e (opens_sound If)
-  kind_sound k.Br w e of = simple_sound s.Br (atom_at (index_of (labels bs))) (ResolvesLabel (labels bs)) w (label_sound (labels bs)) (λ x. e) (λ x. tt) (λ x front h. h)
-  kind_sound k.BrIf w e of = simple_sound s.BrIf (atom_at (index_of (labels bs))) (ResolvesLabel (labels bs)) w (label_sound (labels bs)) (λ x. e) (λ x. tt) (λ x front h. h)
-  kind_sound k.BrTable w e of = headed_to (codes "br_table") w (table_at (labels bs)) e (table_sound sc bs p)
-  kind_sound k.Call w e of = simple_sound s.Call (atom_at (index_of sc.names.functions)) (Resolves sc.names.functions) w (index_sound sc.names.functions) (λ x. e) (λ x. tt) (λ x front h. h)
+  kind_sound (k.Block opening.Block) w e of = headed_to (codes "block") w (opens_at p Block) e (opens_sound Block)
+  kind_sound (k.Block opening.Loop) w e of = headed_to (codes "loop") w (opens_at p Loop) e (opens_sound Loop)
+  kind_sound (k.Block opening.If) w e of = headed_to (codes "if") w (opens_at p If) e (opens_sound If)
+  kind_sound (k.Index indexed.Br) w e of = simple_sound s.Br (atom_at (index_of (labels bs))) (ResolvesLabel (labels bs)) w (label_sound (labels bs)) (λ x. e) (λ x. tt) (λ x front h. h)
+  kind_sound (k.Index indexed.BrIf) w e of = simple_sound s.BrIf (atom_at (index_of (labels bs))) (ResolvesLabel (labels bs)) w (label_sound (labels bs)) (λ x. e) (λ x. tt) (λ x front h. h)
+  kind_sound (k.Index indexed.BrTable) w e of = headed_to (codes "br_table") w (table_at (labels bs)) e (table_sound sc bs p)
+  kind_sound (k.Index indexed.Call) w e of = simple_sound s.Call (atom_at (index_of sc.names.functions)) (Resolves sc.names.functions) w (index_sound sc.names.functions) (λ x. e) (λ x. tt) (λ x front h. h)
   kind_sound k.CallIndirect w e of = simple_sound s.CallIndirect use_at (UnnamedTypeUse sc.names) w use_sound (λ x. e) (λ x. tt) (λ x front h. h)
-  kind_sound k.LocalGet w e of = simple_sound s.LocalGet (atom_at (index_of sc.locals)) (Resolves sc.locals) w (index_sound sc.locals) (λ x. e) (λ x. tt) (λ x front h. h)
-  kind_sound k.LocalSet w e of = simple_sound s.LocalSet (atom_at (index_of sc.locals)) (Resolves sc.locals) w (index_sound sc.locals) (λ x. e) (λ x. tt) (λ x front h. h)
-  kind_sound k.LocalTee w e of = simple_sound s.LocalTee (atom_at (index_of sc.locals)) (Resolves sc.locals) w (index_sound sc.locals) (λ x. e) (λ x. tt) (λ x front h. h)
-  kind_sound k.GlobalGet w e of = simple_sound s.GlobalGet (atom_at (index_of sc.names.globals)) (Resolves sc.names.globals) w (index_sound sc.names.globals) (λ x. e) (λ x. tt) (λ x front h. h)
-  kind_sound k.GlobalSet w e of = simple_sound s.GlobalSet (atom_at (index_of sc.names.globals)) (Resolves sc.names.globals) w (index_sound sc.names.globals) (λ x. e) (λ x. tt) (λ x front h. h)
-  kind_sound k.MemorySize w e of = alone_sound s.MemorySize w e refl (free p s.MemorySize tt)
-  kind_sound k.MemoryGrow w e of = alone_sound s.MemoryGrow w e refl (free p s.MemoryGrow tt)
-  kind_sound k.MemoryCopy w e of = alone_sound s.MemoryCopy w e refl of
-  kind_sound k.MemoryFill w e of = alone_sound s.MemoryFill w e refl of
+  kind_sound (k.Index indexed.LocalGet) w e of = simple_sound s.LocalGet (atom_at (index_of sc.locals)) (Resolves sc.locals) w (index_sound sc.locals) (λ x. e) (λ x. tt) (λ x front h. h)
+  kind_sound (k.Index indexed.LocalSet) w e of = simple_sound s.LocalSet (atom_at (index_of sc.locals)) (Resolves sc.locals) w (index_sound sc.locals) (λ x. e) (λ x. tt) (λ x front h. h)
+  kind_sound (k.Index indexed.LocalTee) w e of = simple_sound s.LocalTee (atom_at (index_of sc.locals)) (Resolves sc.locals) w (index_sound sc.locals) (λ x. e) (λ x. tt) (λ x front h. h)
+  kind_sound (k.Index indexed.GlobalGet) w e of = simple_sound s.GlobalGet (atom_at (index_of sc.names.globals)) (Resolves sc.names.globals) w (index_sound sc.names.globals) (λ x. e) (λ x. tt) (λ x front h. h)
+  kind_sound (k.Index indexed.GlobalSet) w e of = simple_sound s.GlobalSet (atom_at (index_of sc.names.globals)) (Resolves sc.names.globals) w (index_sound sc.names.globals) (λ x. e) (λ x. tt) (λ x front h. h)
+  kind_sound (k.Index indexed.DataDrop) w e of = made_sound (λ x. plain (s.DataDrop x)) (atom_at unsigned_of) UnsignedNumber (Headed w) number_sound (λ x front h. (e, h, of x))
+  kind_sound k.MemoryInit w e of = made_sound (λ x. plain (s.MemoryInit x)) (atom_at unsigned_of) UnsignedNumber (Headed w) number_sound (λ x front h. (e, h, of x))
+  kind_sound (k.Index indexed.ElemDrop) w e of = made_sound (λ x. plain (s.ElemDrop x)) (atom_at unsigned_of) UnsignedNumber (Headed w) number_sound (λ x front h. (e, h, of x))
+  kind_sound k.TableInit w e of = made_sound (λ x. plain (s.TableInit x)) (atom_at unsigned_of) UnsignedNumber (Headed w) number_sound (λ x front h. (e, h, of x))
+  kind_sound k.TableCopy w e of = alone_sound s.TableCopy w e refl of
+  kind_sound (k.Memory memory.MemorySize) w e of = alone_sound s.MemorySize w e refl (free p s.MemorySize tt)
+  kind_sound (k.Memory memory.MemoryGrow) w e of = alone_sound s.MemoryGrow w e refl (free p s.MemoryGrow tt)
+  kind_sound (k.Memory memory.MemoryCopy) w e of = alone_sound s.MemoryCopy w e refl of
+  kind_sound (k.Memory memory.MemoryFill) w e of = alone_sound s.MemoryFill w e refl of
   kind_sound k.I32Const w e of = simple_sound s.I32Const (atom_at (integer_of 32)) (WritesInteger 32) w (integer_sound 32) (λ x. e) (λ x. tt) (λ x front h. h)
   kind_sound k.I64Const w e of = simple_sound s.I64Const (atom_at (integer_of 64)) (WritesInteger 64) w (integer_sound 64) (λ x. e) (λ x. tt) (λ x front h. h)
   kind_sound k.F32Const w e of = made_sound (λ x. plain (s.F32Const x)) (atom_at (float_of float.F32)) (WritesFloat float.F32) (Headed w) (float_sound float.F32) (λ x front h. (e, h, of x))
   kind_sound k.F64Const w e of = made_sound (λ x. plain (s.F64Const x)) (atom_at (float_of float.F64)) (WritesFloat float.F64) (Headed w) (float_sound float.F64) (λ x front h. (e, h, of x))
-  kind_sound (k.Load o) w e of = made_sound (λ x. plain (s.Load o x)) (access_at (load o).width) (WritesAccess (load o).width) (Headed w) (access_sound (load o).width) (λ x front h. (e, h, of x))
-  kind_sound (k.Store o) w e of = made_sound (λ x. plain (s.Store o x)) (access_at (store o).width) (WritesAccess (store o).width) (Headed w) (access_sound (store o).width) (λ x front h. (e, h, of x))
+  kind_sound (k.Access (accesses.Load o)) w e of = made_sound (λ x. plain (s.Load o x)) (access_at (load o).width) (WritesAccess (load o).width) (Headed w) (access_sound (load o).width) (λ x front h. (e, h, of x))
+  kind_sound (k.Access (accesses.Store o)) w e of = made_sound (λ x. plain (s.Store o x)) (access_at (store o).width) (WritesAccess (store o).width) (Headed w) (access_sound (store o).width) (λ x front h. (e, h, of x))
 
   some_word : (v w : List ℕ) → ◌≡◌ {A = Option (List ℕ)} (Some v) (Some w) → v ≡ w
   some_word v w e = same_some v w e
 
   -- The tokens that the reader of an op's class accepts follow the op's name.
   class_sound : (o : Op) (w : List ℕ) → op_name o ≡ Some w → IsOpOf p o → Sound (class_at use_at p sc bs (class_of o)) (Headed w)
-  class_sound (op.Simple (s.Br x)) w e h = kind_sound k.Br w (some_word (codes "br") w e) tt
-  class_sound (op.Simple (s.BrIf x)) w e h = kind_sound k.BrIf w (some_word (codes "br_if") w e) tt
-  class_sound (op.Simple (s.Call x)) w e h = kind_sound k.Call w (some_word (codes "call") w e) tt
+  class_sound (op.Simple (s.Br x)) w e h = kind_sound (k.Index indexed.Br) w (some_word (codes "br") w e) tt
+  class_sound (op.Simple (s.BrIf x)) w e h = kind_sound (k.Index indexed.BrIf) w (some_word (codes "br_if") w e) tt
+  class_sound (op.Simple (s.Call x)) w e h = kind_sound (k.Index indexed.Call) w (some_word (codes "call") w e) tt
   class_sound (op.Simple (s.CallIndirect x)) w e h = kind_sound k.CallIndirect w (some_word (codes "call_indirect") w e) tt
-  class_sound (op.Simple (s.LocalGet x)) w e h = kind_sound k.LocalGet w (some_word (codes "local.get") w e) tt
-  class_sound (op.Simple (s.LocalSet x)) w e h = kind_sound k.LocalSet w (some_word (codes "local.set") w e) tt
-  class_sound (op.Simple (s.LocalTee x)) w e h = kind_sound k.LocalTee w (some_word (codes "local.tee") w e) tt
-  class_sound (op.Simple (s.GlobalGet x)) w e h = kind_sound k.GlobalGet w (some_word (codes "global.get") w e) tt
-  class_sound (op.Simple (s.GlobalSet x)) w e h = kind_sound k.GlobalSet w (some_word (codes "global.set") w e) tt
-  class_sound (op.Simple s.MemorySize) w e h = kind_sound k.MemorySize w (some_word (codes "memory.size") w e) tt
-  class_sound (op.Simple s.MemoryGrow) w e h = kind_sound k.MemoryGrow w (some_word (codes "memory.grow") w e) tt
-  class_sound (op.Simple s.MemoryCopy) w e h = kind_sound k.MemoryCopy w (some_word (codes "memory.copy") w e) h
-  class_sound (op.Simple s.MemoryFill) w e h = kind_sound k.MemoryFill w (some_word (codes "memory.fill") w e) h
+  class_sound (op.Simple (s.LocalGet x)) w e h = kind_sound (k.Index indexed.LocalGet) w (some_word (codes "local.get") w e) tt
+  class_sound (op.Simple (s.LocalSet x)) w e h = kind_sound (k.Index indexed.LocalSet) w (some_word (codes "local.set") w e) tt
+  class_sound (op.Simple (s.LocalTee x)) w e h = kind_sound (k.Index indexed.LocalTee) w (some_word (codes "local.tee") w e) tt
+  class_sound (op.Simple (s.GlobalGet x)) w e h = kind_sound (k.Index indexed.GlobalGet) w (some_word (codes "global.get") w e) tt
+  class_sound (op.Simple (s.GlobalSet x)) w e h = kind_sound (k.Index indexed.GlobalSet) w (some_word (codes "global.set") w e) tt
+  class_sound (op.Simple (s.MemoryInit x)) w e h = kind_sound k.MemoryInit w (some_word (codes "memory.init") w e) (λ n. h)
+  class_sound (op.Simple (s.DataDrop x)) w e h = kind_sound (k.Index indexed.DataDrop) w (some_word (codes "data.drop") w e) (λ n. h)
+  class_sound (op.Simple (s.TableInit x)) w e h = kind_sound k.TableInit w (some_word (codes "table.init") w e) (λ n. h)
+  class_sound (op.Simple (s.ElemDrop x)) w e h = kind_sound (k.Index indexed.ElemDrop) w (some_word (codes "elem.drop") w e) (λ n. h)
+  class_sound (op.Simple s.TableCopy) w e h = kind_sound k.TableCopy w (some_word (codes "table.copy") w e) h
+  class_sound (op.Simple s.MemorySize) w e h = kind_sound (k.Memory memory.MemorySize) w (some_word (codes "memory.size") w e) tt
+  class_sound (op.Simple s.MemoryGrow) w e h = kind_sound (k.Memory memory.MemoryGrow) w (some_word (codes "memory.grow") w e) tt
+  class_sound (op.Simple s.MemoryCopy) w e h = kind_sound (k.Memory memory.MemoryCopy) w (some_word (codes "memory.copy") w e) h
+  class_sound (op.Simple s.MemoryFill) w e h = kind_sound (k.Memory memory.MemoryFill) w (some_word (codes "memory.fill") w e) h
   class_sound (op.Simple (s.I32Const x)) w e h = kind_sound k.I32Const w (some_word (codes "i32.const") w e) tt
   class_sound (op.Simple (s.I64Const x)) w e h = kind_sound k.I64Const w (some_word (codes "i64.const") w e) tt
   class_sound (op.Simple (s.F32Const x)) w e h = kind_sound k.F32Const w (some_word (codes "f32.const") w e) (λ n. h)
   class_sound (op.Simple (s.F64Const x)) w e h = kind_sound k.F64Const w (some_word (codes "f64.const") w e) (λ n. h)
-  class_sound (op.Simple (s.Load o at)) w e h = kind_sound (k.Load o) w (some_word (load o).name w e) (load_all p o at h)
-  class_sound (op.Simple (s.Store o at)) w e h = kind_sound (k.Store o) w (some_word (store o).name w e) (store_all p o at h)
+  class_sound (op.Simple (s.Load o at)) w e h = kind_sound (k.Access (accesses.Load o)) w (some_word (load o).name w e) (load_all p o at h)
+  class_sound (op.Simple (s.Store o at)) w e h = kind_sound (k.Access (accesses.Store o)) w (some_word (store o).name w e) (store_all p o at h)
   class_sound (op.Simple (s.Numeric n)) w e h = alone_sound (s.Numeric n) w (some_word (opcode (s.Numeric n)).1 w e) refl h
   class_sound (op.Simple s.Unreachable) w e h = alone_sound s.Unreachable w (some_word (codes "unreachable") w e) refl h
   class_sound (op.Simple s.Nop) w e h = alone_sound s.Nop w (some_word (codes "nop") w e) refl h
   class_sound (op.Simple s.Return) w e h = alone_sound s.Return w (some_word (codes "return") w e) refl h
   class_sound (op.Simple s.Drop) w e h = alone_sound s.Drop w (some_word (codes "drop") w e) refl h
   class_sound (op.Simple s.Select) w e h = alone_sound s.Select w (some_word (codes "select") w e) refl h
-  class_sound (op.Block t) w e h = kind_sound k.Block w (some_word (codes "block") w e) tt
-  class_sound (op.Loop t) w e h = kind_sound k.Loop w (some_word (codes "loop") w e) tt
-  class_sound (op.If t) w e h = kind_sound k.If w (some_word (codes "if") w e) tt
+  class_sound (op.Block t) w e h = kind_sound (k.Block opening.Block) w (some_word (codes "block") w e) tt
+  class_sound (op.Loop t) w e h = kind_sound (k.Block opening.Loop) w (some_word (codes "loop") w e) tt
+  class_sound (op.If t) w e h = kind_sound (k.Block opening.If) w (some_word (codes "if") w e) tt
   class_sound op.Else w e h = headed_to (codes "else") w (middle_at bs) (some_word (codes "else") w e) (middle_sound sc p bs)
   class_sound op.End w e h = headed_to (codes "end") w (closes_at bs) (some_word (codes "end") w e) (closes_sound sc p bs)
-  class_sound (op.BrTable n) w e h = kind_sound k.BrTable w (some_word (codes "br_table") w e) tt
+  class_sound (op.BrTable n) w e h = kind_sound (k.Index indexed.BrTable) w (some_word (codes "br_table") w e) tt
   class_sound (op.Label l) w e h = absurd (let f : ◌≡◌ {A = Option (List ℕ)} None (Some w) = e in cc)
 
   -- The tokens in front write the piece that is read.
@@ -479,6 +508,11 @@ module _ (use_at : Reader ℕ) (sc : Scope) (use_sound : Sound use_at (UnnamedTy
     simple_complete (s.F64Const n) front rest h f = made_is (λ y. plain (s.F64Const y)) (atom_at (float_of float.F64) (front ++ rest)) n rest (float_complete float.F64 n front rest h tt)
     simple_complete (s.Load o at) front rest h f = made_is (λ y. plain (s.Load o y)) (access_at (load o).width (front ++ rest)) at rest (access_complete (load o).width (load_width o) at front rest h (follow_keys rest f))
     simple_complete (s.Store o at) front rest h f = made_is (λ y. plain (s.Store o y)) (access_at (store o).width (front ++ rest)) at rest (access_complete (store o).width (store_width o) at front rest h (follow_keys rest f))
+    simple_complete (s.MemoryInit x) front rest h f = made_is (λ y. plain (s.MemoryInit y)) (atom_at unsigned_of (front ++ rest)) x rest (number_complete x front rest h tt)
+    simple_complete (s.DataDrop x) front rest h f = made_is (λ y. plain (s.DataDrop y)) (atom_at unsigned_of (front ++ rest)) x rest (number_complete x front rest h tt)
+    simple_complete (s.TableInit x) front rest h f = made_is (λ y. plain (s.TableInit y)) (atom_at unsigned_of (front ++ rest)) x rest (number_complete x front rest h tt)
+    simple_complete (s.ElemDrop x) front rest h f = made_is (λ y. plain (s.ElemDrop y)) (atom_at unsigned_of (front ++ rest)) x rest (number_complete x front rest h tt)
+    simple_complete s.TableCopy front rest h f = alone_complete s.TableCopy front rest h
     simple_complete s.MemorySize front rest h f = alone_complete s.MemorySize front rest h
     simple_complete s.MemoryGrow front rest h f = alone_complete s.MemoryGrow front rest h
     simple_complete s.MemoryCopy front rest h f = alone_complete s.MemoryCopy front rest h
@@ -494,7 +528,7 @@ module _ (use_at : Reader ℕ) (sc : Scope) (use_sound : Sound use_at (UnnamedTy
     type_not_id None front rest (e, of) f = subst (λ (z : List Token). NotId (z ++ rest)) (sym e) (follow_id rest f)
     type_not_id (Some t) front rest ((a, b, e, is, more), of) f = subst (λ (z : List Token). NotId (z ++ rest)) (sym (e ∙ ap (λ (z : List Token). z ++ b) is)) tt
 
-    opens_complete : (o : BlockKeyword) (id : Id) (t : Option ValType) (front rest : List Token) → (WritesId id ▸ WritesBlockType t) front → HasBlockType p t → Follow rest → opens_at p o (front ++ rest) ≡ Some (opens o id t, rest)
+    opens_complete : (o : BlockOp) (id : Id) (t : Option ValType) (front rest : List Token) → (WritesId id ▸ WritesBlockType t) front → HasBlockType p t → Follow rest → opens_at p o (front ++ rest) ≡ Some (opens o id t, rest)
     opens_complete o id t front rest (a, b, e, i, w) of f =
         made_is (λ x. opens o x.0 x.1) (then_at id_at (block_type_at p) (front ++ rest)) (id, t) rest
         (then_complete id_at (block_type_at p) WritesId (OfBlockType p) NotId Follow id_complete (λ u g r h f. block_type_complete p u g r h (follow_open r f)) type_not_id (id, t) front rest (a, b, e, i, (w, of)) f)

@@ -10,11 +10,12 @@ use Rattle.wm_syntax.specs.declared.profile.Profile.{Profile}
 use Rattle.wm_syntax.specs.Instructions.{Instruction, Instructions, none, snoc, simple, table, block, loop, choice, HasOp, HasOps, HasElse}
 use Rattle.wm_syntax.specs.Profiles.{HasBlockType, HasInstruction, HasInstructions}
 use Rattle.wm_tokens.specs.Tokens.{Token}
-use Rattle.wm_bodies.specs.declared.blocks.BlockKeyword.{BlockKeyword}
-use Rattle.wm_bodies.specs.declared.blocks.BlockKeyword.TheVariants.{Block, Loop, If}
+use Rattle.wm_syntax.specs.declared.instructions.op_class.BlockOp.{BlockOp}
+use Rattle.wm_syntax.specs.declared.instructions.op_class.BlockOp.TheVariants.{Block, Loop, If}
 use Rattle.wm_tokens.specs.Identifiers.{Id}
 use Rattle.wm_tokens.specs.Written.{Scope, WritesInstruction, WritesInstructions, WritesElse, Opens, Closes}
-use Rattle.wm_bodies.specs.inner.Pieces.{Open, Opened, labels, Piece, plain, jump, opens, middle, closes, after, piece_ops, pieces_ops, opening_word, opening_op, is_if, IsPieceOf, WritesPiece, WritesPieces, WritesOps}
+use Rattle.wm_bodies.specs.inner.Pieces.{Open, Opened, labels, Piece, plain, jump, opens, middle, closes, after, piece_ops, pieces_ops, opening_word, is_if, IsPieceOf, WritesPiece, WritesPieces, WritesOps}
+use Rattle.wm_syntax.specs.exact.OpShapes.{block_op}
 
 abbrev opened : Id → Bool → Open
 opened id b = record { id = id; may_else = b }
@@ -50,15 +51,15 @@ module _ (p : Profile) (sc : Scope) where
     pub runs : Runs bs bs ps front
     pub ops : has (pieces_ops ps)
 
-  around : (bs : Opened) (o : BlockKeyword) (id : Id) (t : Option ValType) (x u v : List Token) (inside : List Piece)
+  around : (bs : Opened) (o : BlockOp) (id : Id) (t : Option ValType) (x u v : List Token) (inside : List Piece)
       → HasBlockType p t → Opens (opening_word o) id t x → Runs (opened id (is_if o) ∷ bs) (opened id (is_if o) ∷ bs) inside u → Closes (codes "end") id v
       → Runs bs bs (opens o id t ∷ [] ++ (inside ++ closes ∷ [])) (x ++ (u ++ v))
   around bs o id t x u v inside of h r c =
       runs_then bs (opened id (is_if o) ∷ bs) bs (opens o id t ∷ []) (inside ++ closes ∷ []) x (u ++ v) (one_runs bs (opens o id t) x h of)
       (runs_then (opened id (is_if o) ∷ bs) (opened id (is_if o) ∷ bs) bs inside (closes ∷ []) u v r (one_runs (opened id (is_if o) ∷ bs) closes v c tt))
 
-  around_ops : (o : BlockKeyword) (id : Id) (t : Option ValType) (inside : List Piece) → pieces_ops (opens o id t ∷ [] ++ (inside ++ closes ∷ [])) ≡ opening_op o t ∷ [] ++ (pieces_ops inside ++ op.End ∷ [])
-  around_ops o id t inside = ap (λ (z : List Op). opening_op o t ∷ z) (pieces_append inside (closes ∷ []))
+  around_ops : (o : BlockOp) (id : Id) (t : Option ValType) (inside : List Piece) → pieces_ops (opens o id t ∷ [] ++ (inside ++ closes ∷ [])) ≡ block_op o t ∷ [] ++ (pieces_ops inside ++ op.End ∷ [])
+  around_ops o id t inside = ap (λ (z : List Op). block_op o t ∷ z) (pieces_append inside (closes ∷ []))
 
   -- the second list, and the end
   else_flat : (bs : Opened) (id : Id) (second : Instructions) (a : List Token) → WritesElse id second (WritesInstructions sc (id ∷ labels bs) second) a → HasInstructions p second

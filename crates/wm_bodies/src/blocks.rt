@@ -10,14 +10,6 @@ use std::alloc::{AllocError, Global};
 use std::collections::BTreeMap;
 use std::marker::Model;
 
-/// The kind of a block.
-#[derive(Clone, Copy, PartialEq, Eq)]
-pub enum BlockKeyword {
-    Block,
-    Loop,
-    If,
-}
-
 /// An open block: its identifier, and whether an `else` may still follow.
 #[derive(Clone, Copy)]
 pub struct Block<'a> {

@@ -13,16 +13,16 @@ ghost use Rattle.wm_syntax.specs.inner.Building.{at, place_after};
 ghost use Rattle.wm_syntax.specs.Instructions.{Instructions};
 ghost use Rattle.wm_syntax.specs.declared.instructions.Op.TheVariants as Op;
 
-use crate::blocks::{BlockKeyword, OpenBlocks};
+use crate::blocks::OpenBlocks;
 use crate::identifiers::Scope;
 use crate::op_immediates::refuse;
 use crate::pieces::{Piece, read_piece};
 use std::alloc::Global;
+use wm_syntax::instructions::op_class::BlockOp;
 use wm_syntax::instructions::{Op, Simple};
 use wm_syntax::modules::body::Body;
 use wm_syntax::modules::body_builder::{BodyBuilder, BodyFault};
 use wm_syntax::profile::Profile;
-use wm_syntax::types::ValType;
 use wm_tokens::faults::{TextFault, TextWhy};
 use wm_tokens::lexeme::{Lexeme, first_token};
 
@@ -90,22 +90,11 @@ fn push_table(builder: &mut BodyBuilder, labels: &[u32], default: u32) -> Result
     push(builder, Op::Label(default))
 }
 
-/// Returns the op that opens a block with this result type.
-fn opening_op(opening: BlockKeyword, ty: Option<ValType>) -> Op
-    ensures { result ≡ flat.opening_op opening ty }
-{
-    match opening {
-        BlockKeyword::Block => Op::Block(ty),
-        BlockKeyword::Loop => Op::Loop(ty),
-        BlockKeyword::If => Op::If(ty),
-    }
-}
-
 /// Whether the block is an `if`, so that an `else` may follow.
-fn is_if(opening: BlockKeyword) -> bool
+fn is_if(opening: BlockOp) -> bool
     ensures { result ≡ flat.is_if opening }
 {
-    matches!(opening, BlockKeyword::If)
+    matches!(opening, BlockOp::If)
 }
 
 /// Appends a piece that may come next. After an error the body is unspecified.
@@ -121,7 +110,7 @@ fn add<'a>(body: &mut OpenBody<'a>, piece: Piece<'a>) -> Result<(), TextFault>
         Piece::Plain(simple) => push_simple(&mut body.builder, simple)?,
         Piece::Table(labels, default) => push_table(&mut body.builder, &labels, default)?,
         Piece::Opens(opening, id, ty) => {
-            push(&mut body.builder, opening_op(opening, ty))?;
+            push(&mut body.builder, opening.op(ty))?;
             body.blocks.open(id, is_if(opening))?;
         }
         Piece::Middle => {

@@ -77,6 +77,20 @@ pub fn with<'a, T, U, F: FnOnce(T) -> U>(make: F, read: (T, &'a [u8])) -> (U, &'
     (make(operand), rest)
 }
 
+/// Reads an atom as a value. `$no` is the refusal of an atom that is no such value.
+#[macro_export]
+macro_rules! value_in {
+    ($token:expr, $text:expr, $atom:ident => $value:expr, $no:expr) => {
+        match $token {
+            Some((Lexeme::Atom($atom), rest)) => match $value {
+                Some(value) => Ok((value, rest)),
+                None => Err($no),
+            },
+            _ => Err(refuse(TextWhy::Expected, $text)),
+        }
+    };
+}
+
 /// Reads an index: a number, or an identifier of this index space. Core spec 6.6.1.
 /// Fails with `UnknownId` if the space lacks the identifier, with `BadInteger` for a numeral that is no `u32`,
 /// and else with `Expected`.
@@ -93,19 +107,25 @@ pub fn index<'a>(space: &Space, text: &'a [u8]) -> Result<(u32, &'a [u8]), TextF
     }
 }
 
+/// Reads a number below 2^32, such as the index of a segment.
+/// Fails with `BadInteger` for a numeral that is no `u32`, and else with `Expected`.
+pub fn natural(text: &[u8]) -> Result<(u32, &[u8]), TextFault>
+    ensures { Reads (λ x. (x.0, lexed x.1.now)) result
+        (reading.atom_at reading.unsigned_of (lexed text.now)) }
+{
+    match next_token(text) {
+        Some((Lexeme::Atom(atom), rest)) => Ok((number(atom, text)?, rest)),
+        _ => Err(refuse(TextWhy::Expected, text)),
+    }
+}
+
 /// Reads the constant of an `i32.const`, signed or unsigned. Core spec 6.3.1.
 /// Fails with `BadInteger` for a numeral that is no such integer, and else with `Expected`.
 pub fn integer_32(text: &[u8]) -> Result<(i32, &[u8]), TextFault>
     ensures { Reads (λ x. (x.0, lexed x.1.now)) result
         (reading.atom_at (reading.integer_of 32) (lexed text.now)) }
 {
-    match first_token(text) {
-        Some((Lexeme::Atom(atom), rest)) => match constant32(atom) {
-            Some(n) => Ok((n, rest)),
-            None => Err(no_integer(atom, text)),
-        },
-        _ => Err(refuse(TextWhy::Expected, text)),
-    }
+    value_in!(first_token(text), text, atom => constant32(atom), no_integer(atom, text))
 }
 
 /// Reads the constant of an `i64.const`, signed or unsigned. Core spec 6.3.1. It fails as `integer_32` does.
@@ -113,13 +133,7 @@ pub fn integer_64(text: &[u8]) -> Result<(i64, &[u8]), TextFault>
     ensures { Reads (λ x. (x.0, lexed x.1.now)) result
         (reading.atom_at (reading.integer_of 64) (lexed text.now)) }
 {
-    match next_token(text) {
-        Some((Lexeme::Atom(atom), rest)) => match constant64(atom) {
-            Some(n) => Ok((n, rest)),
-            None => Err(no_integer(atom, text)),
-        },
-        _ => Err(refuse(TextWhy::Expected, text)),
-    }
+    value_in!(next_token(text), text, atom => constant64(atom), no_integer(atom, text))
 }
 
 /// Reads the constant of an `f32.const`, and returns its bits. Core spec 6.3.2.
@@ -128,13 +142,7 @@ pub fn float_32(alloc: Global, text: &[u8]) -> Result<(u32, &[u8]), TextFault>
     ensures { Reads (λ x. (x.0, lexed x.1.now)) result
         (reading.atom_at (atoms.float_of float.F32) (lexed text.now)) }
 {
-    match next_token(text) {
-        Some((Lexeme::Atom(atom), rest)) => match float32(alloc, atom)? {
-            Some(bits) => Ok((bits, rest)),
-            None => Err(no_float(atom, text)),
-        },
-        _ => Err(refuse(TextWhy::Expected, text)),
-    }
+    value_in!(next_token(text), text, atom => float32(alloc, atom)?, no_float(atom, text))
 }
 
 /// Reads the constant of an `f64.const`, and returns its bits. Core spec 6.3.2. It fails as `float_32` does.
@@ -142,13 +150,7 @@ pub fn float_64(alloc: Global, text: &[u8]) -> Result<(u64, &[u8]), TextFault>
     ensures { Reads (λ x. (x.0, lexed x.1.now)) result
         (reading.atom_at (atoms.float_of float.F64) (lexed text.now)) }
 {
-    match next_token(text) {
-        Some((Lexeme::Atom(atom), rest)) => match float64(alloc, atom)? {
-            Some(bits) => Ok((bits, rest)),
-            None => Err(no_float(atom, text)),
-        },
-        _ => Err(refuse(TextWhy::Expected, text)),
-    }
+    value_in!(next_token(text), text, atom => float64(alloc, atom)?, no_float(atom, text))
 }
 
 /// Returns the refusal of an atom that is no float, where one is expected. The atom is the first token of `text`.
@@ -310,21 +312,25 @@ pub fn word<'a>(word: &[u8], text: &'a [u8]) -> Result<&'a [u8], TextFault>
     }
 }
 
+/// Returns the value whose keyword is this atom, if any.
+#[macro_export]
+macro_rules! named {
+    ($atom:expr, $($word:literal => $value:expr,)*) => {
+        $(if is($atom, $word) { Some($value) } else)* { None }
+    };
+}
+
 /// Returns the value type that an atom names, if any. Core spec 6.4.1.
 pub(crate) fn type_named(atom: &[u8]) -> Option<ValType>
     ensures { result ≡ reading.type_named atom.now }
 {
-    if is(atom, b"i32") {
-        Some(ValType::I32)
-    } else if is(atom, b"i64") {
-        Some(ValType::I64)
-    } else if is(atom, b"f32") {
-        Some(ValType::F32)
-    } else if is(atom, b"f64") {
-        Some(ValType::F64)
-    } else {
-        None
-    }
+    named!(
+        atom,
+        b"i32" => ValType::I32,
+        b"i64" => ValType::I64,
+        b"f32" => ValType::F32,
+        b"f64" => ValType::F64,
+    )
 }
 
 /// Returns the value type that an atom names, if any and if the profile has it.
@@ -376,13 +382,7 @@ pub fn val_type(profile: Profile, text: &[u8]) -> Result<(ValType, &[u8]), TextF
     ensures { Reads (λ x. (x.0, lexed x.1.now)) result
         (reading.atom_at (reading.type_of profile) (lexed text.now)) }
 {
-    match next_token(text) {
-        Some((Lexeme::Atom(atom), rest)) => match type_of(profile, atom) {
-            Some(ty) => Ok((ty, rest)),
-            None => Err(no_type(profile, atom, text)),
-        },
-        _ => Err(refuse(TextWhy::Expected, text)),
-    }
+    value_in!(next_token(text), text, atom => type_of(profile, atom), no_type(profile, atom, text))
 }
 
 /// Reads `( name valtype )`, where `name` is the keyword.

@@ -1,31 +1,30 @@
 //! Reads the pieces of a body. A piece is an instruction, or opens, divides or closes a block.
 
 ghost use Rattle.std.specs.Prelude.{◌≡◌, ◌≢◌, ◌≤◌, [], Some, IfOk, length};
-ghost use Rattle.wm_floats.specs.exact.Atoms as atoms;
 ghost use Rattle.wm_tokens.specs.exact.Scan.{lexed};
 ghost use Rattle.wm_bodies.specs.inner.Blocks.{names_of, scope_of};
 ghost use Rattle.wm_bodies.specs.exact.TypeUses.{call_use_at};
-ghost use Rattle.wm_bodies.specs.inner.CodePieces.{FitsPiece, piece_of, HasOperand};
+ghost use Rattle.wm_bodies.specs.inner.CodePieces.{FitsPiece, HasOperand, IsFloatOrAccess, piece_of};
 ghost use Rattle.wm_bodies.specs.inner.Pieces as flat;
 ghost use Rattle.wm_bodies.specs.exact.Reading as reading;
 ghost use Rattle.wm_bodies.specs.inner.Views.{Reads};
-ghost use Rattle.wm_syntax.specs.Opcodes as table;
-ghost use Rattle.wm_syntax.specs.declared.instructions.FloatType.TheVariants as float;
 ghost use Rattle.wm_syntax.specs.declared.instructions.Simple.TheVariants as Simple;
 
-use crate::blocks::{BlockKeyword, OpenBlocks};
+use crate::blocks::OpenBlocks;
 use crate::identifiers::{Names, Scope};
 use crate::named_uses::call_fault;
 use crate::op_immediates::{
     access, again, begins_index, block_type, float_32, float_64, id, index, integer_32, integer_64,
-    label, no_instruction, refuse, with,
+    label, natural, no_instruction, refuse, with,
 };
 use crate::op_keywords::op_keyword;
 use crate::type_uses::type_use;
 use std::alloc::Global;
 use wm_syntax::instructions::accesses::{loaded, stored};
-use wm_syntax::instructions::op_class::{Immediates, OpClass};
-use wm_syntax::instructions::{LoadOp, Op, Simple, StoreOp};
+use wm_syntax::instructions::op_class::{
+    BlockOp, Immediates, Indexed, LoadOrStore, MemoryOp, OpClass,
+};
+use wm_syntax::instructions::{Op, Simple};
 use wm_syntax::profile::Profile;
 use wm_syntax::types::ValType;
 use wm_tokens::faults::{TextFault, TextWhy};
@@ -35,12 +34,12 @@ use wm_tokens::faults::{TextFault, TextWhy};
 pub enum Piece<'a> {
     Plain(Simple),
     Table(Vec<u32>, u32),
-    Opens(BlockKeyword, Option<&'a [u8]>, Option<ValType>),
+    Opens(BlockOp, Option<&'a [u8]>, Option<ValType>),
     Middle,
     Closes,
 }
 
-fn opens(profile: Profile, opening: BlockKeyword, text: &[u8]) -> Result<(Piece, &[u8]), TextFault>
+fn opens(profile: Profile, opening: BlockOp, text: &[u8]) -> Result<(Piece, &[u8]), TextFault>
     ensures fits { IfOk result (λ x. FitsPiece (piece_of x.0)) }
     ensures read { Reads (λ x. (piece_of x.0, lexed x.1.now)) result
         (reading.opens_at profile opening (lexed text.now)) }
@@ -48,24 +47,6 @@ fn opens(profile: Profile, opening: BlockKeyword, text: &[u8]) -> Result<(Piece,
     let (id, rest) = id(text);
     let (ty, rest) = block_type(profile, rest)?;
     Ok((Piece::Opens(opening, id, ty), rest))
-}
-
-#[tactic(auto, using(crate::proofs::Ends::load_width))]
-fn load(op: LoadOp, text: &[u8]) -> Result<(Simple, &[u8]), TextFault>
-    ensures { Reads (λ x. (flat.plain x.0, lexed x.1.now)) result
-        (reading.simple_at (Simple.Load op) (reading.access_at (table.load op).width) (lexed text.now)) }
-{
-    let (at, rest) = access(loaded(op).width, text)?;
-    Ok((Simple::Load(op, at), rest))
-}
-
-#[tactic(auto, using(crate::proofs::Ends::store_width))]
-fn store(op: StoreOp, text: &[u8]) -> Result<(Simple, &[u8]), TextFault>
-    ensures { Reads (λ x. (flat.plain x.0, lexed x.1.now)) result
-        (reading.simple_at (Simple.Store op) (reading.access_at (table.store op).width) (lexed text.now)) }
-{
-    let (at, rest) = access(stored(op).width, text)?;
-    Ok((Simple::Store(op, at), rest))
 }
 
 /// Reads all labels up to another token, at most `most`. Core spec 6.5.2.
@@ -159,45 +140,65 @@ fn operand<'a>(
         blocks.now kind (lexed text.now)) }
 {
     let (simple, rest) = match kind {
-        Immediates::Br => with(Simple::Br, label(blocks, text)?),
-        Immediates::BrIf => with(Simple::BrIf, label(blocks, text)?),
-        Immediates::Call => with(Simple::Call, index(&scope.names.functions, text)?),
-        Immediates::LocalGet => with(Simple::LocalGet, index(&scope.locals, text)?),
-        Immediates::LocalSet => with(Simple::LocalSet, index(&scope.locals, text)?),
-        Immediates::LocalTee => with(Simple::LocalTee, index(&scope.locals, text)?),
-        Immediates::GlobalGet => with(Simple::GlobalGet, index(&scope.names.globals, text)?),
-        Immediates::GlobalSet => with(Simple::GlobalSet, index(&scope.names.globals, text)?),
-        Immediates::MemorySize => (Simple::MemorySize, text),
-        Immediates::MemoryGrow => (Simple::MemoryGrow, text),
-        Immediates::MemoryCopy => (Simple::MemoryCopy, text),
-        Immediates::MemoryFill => (Simple::MemoryFill, text),
+        Immediates::Index(Indexed::Br) => with(Simple::Br, label(blocks, text)?),
+        Immediates::Index(Indexed::BrIf) => with(Simple::BrIf, label(blocks, text)?),
+        Immediates::Index(Indexed::Call) => with(
+            Simple::Call,
+            index(&scope.names.functions, text)?,
+        ),
+        Immediates::Index(Indexed::LocalGet) => with(Simple::LocalGet, index(&scope.locals, text)?),
+        Immediates::Index(Indexed::LocalSet) => with(Simple::LocalSet, index(&scope.locals, text)?),
+        Immediates::Index(Indexed::LocalTee) => with(Simple::LocalTee, index(&scope.locals, text)?),
+        Immediates::Index(Indexed::GlobalGet) => with(
+            Simple::GlobalGet,
+            index(&scope.names.globals, text)?,
+        ),
+        Immediates::Index(Indexed::GlobalSet) => with(
+            Simple::GlobalSet,
+            index(&scope.names.globals, text)?,
+        ),
+        Immediates::Index(Indexed::DataDrop) => with(Simple::DataDrop, natural(text)?),
+        Immediates::MemoryInit => with(Simple::MemoryInit, natural(text)?),
+        Immediates::Index(Indexed::ElemDrop) => with(Simple::ElemDrop, natural(text)?),
+        Immediates::TableInit => with(Simple::TableInit, natural(text)?),
+        Immediates::TableCopy => (Simple::TableCopy, text),
+        Immediates::Memory(MemoryOp::MemorySize) => (Simple::MemorySize, text),
+        Immediates::Memory(MemoryOp::MemoryGrow) => (Simple::MemoryGrow, text),
+        Immediates::Memory(MemoryOp::MemoryCopy) => (Simple::MemoryCopy, text),
+        Immediates::Memory(MemoryOp::MemoryFill) => (Simple::MemoryFill, text),
         Immediates::I32Const => with(Simple::I32Const, integer_32(text)?),
         Immediates::I64Const => with(Simple::I64Const, integer_64(text)?),
-        Immediates::Load(op) => load(op, text)?,
-        Immediates::Store(op) => store(op, text)?,
         _ => return Err(refuse(TextWhy::UnknownWord, text)),
     };
     Ok((Piece::Plain(simple), rest))
 }
 
-/// Reads the operand of an `f32.const`.
-fn constant_f32(alloc: Global, text: &[u8]) -> Result<(Piece, &[u8]), TextFault>
+/// Reads the operand of a float constant, a load or a store. Out of line, so that `operand` has fewer results in memory.
+#[inline(never)]
+#[tactic(auto, using(crate::proofs::Ends::load_width, crate::proofs::Ends::store_width))]
+fn float_or_access<'a>(
+    alloc: Global,
+    kind: Immediates,
+    text: &'a [u8],
+) -> Result<(Piece<'a>, &'a [u8]), TextFault>
+    requires { IsFloatOrAccess kind }
     ensures fits { IfOk result (λ x. FitsPiece (piece_of x.0)) }
-    ensures read { Reads (λ x. (piece_of x.0, lexed x.1.now)) result
-        (reading.simple_at Simple.F32Const (reading.atom_at (atoms.float_of float.F32)) (lexed text.now)) }
+    ensures read { Reads (λ x. (piece_of x.0, lexed x.1.now)) result (reading.float_or_access_at kind (lexed text.now)) }
 {
-    let (bits, rest) = float_32(alloc, text)?;
-    Ok((Piece::Plain(Simple::F32Const(bits)), rest))
-}
-
-/// Reads the operand of an `f64.const`.
-fn constant_f64(alloc: Global, text: &[u8]) -> Result<(Piece, &[u8]), TextFault>
-    ensures fits { IfOk result (λ x. FitsPiece (piece_of x.0)) }
-    ensures read { Reads (λ x. (piece_of x.0, lexed x.1.now)) result
-        (reading.simple_at Simple.F64Const (reading.atom_at (atoms.float_of float.F64)) (lexed text.now)) }
-{
-    let (bits, rest) = float_64(alloc, text)?;
-    Ok((Piece::Plain(Simple::F64Const(bits)), rest))
+    let (simple, rest) = match kind {
+        Immediates::F32Const => with(Simple::F32Const, float_32(alloc, text)?),
+        Immediates::F64Const => with(Simple::F64Const, float_64(alloc, text)?),
+        Immediates::Access(LoadOrStore::Load(op)) => {
+            let (at, rest) = access(loaded(op).width, text)?;
+            (Simple::Load(op, at), rest)
+        }
+        Immediates::Access(LoadOrStore::Store(op)) => {
+            let (at, rest) = access(stored(op).width, text)?;
+            (Simple::Store(op, at), rest)
+        }
+        _ => return Err(refuse(TextWhy::UnknownWord, text)),
+    };
+    Ok((Piece::Plain(simple), rest))
 }
 
 /// Reads the type use of a `call_indirect`.
@@ -242,14 +243,15 @@ pub(crate) fn read_piece<'a>(
         OpClass::Plain(Op::Else) => middle(blocks, here, text),
         OpClass::Plain(Op::End) => closes(blocks, here, text),
         OpClass::Plain(_) => Err(refuse(TextWhy::UnknownWord, here)),
-        OpClass::With(Immediates::Block) => opens(profile, BlockKeyword::Block, text),
-        OpClass::With(Immediates::Loop) => opens(profile, BlockKeyword::Loop, text),
-        OpClass::With(Immediates::If) => opens(profile, BlockKeyword::If, text),
-        OpClass::With(Immediates::BrTable) => table(alloc, blocks, text),
+        OpClass::With(Immediates::Block(opening)) => opens(profile, opening, text),
+        OpClass::With(Immediates::Index(Indexed::BrTable)) => table(alloc, blocks, text),
         OpClass::With(Immediates::CallIndirect) => indirect(alloc, profile, scope.names, text),
-        OpClass::With(Immediates::F32Const) => constant_f32(alloc, text),
-        OpClass::With(Immediates::F64Const) => constant_f64(alloc, text),
-        OpClass::With(kind) => operand(profile, scope, blocks, kind, text),
+        OpClass::With(kind) => match kind {
+            Immediates::F32Const | Immediates::F64Const | Immediates::Access(_) => {
+                float_or_access(alloc, kind, text)
+            }
+            _ => operand(profile, scope, blocks, kind, text),
+        },
         OpClass::Float => Err(refuse(TextWhy::Float, here)),
         OpClass::None => Err(no_instruction(profile, word, here)),
     }

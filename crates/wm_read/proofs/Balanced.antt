@@ -1,5 +1,9 @@
 -- The parentheses of a field's tokens balance, so skipping ends right after the field.
 use Rattle.std.proofs.Common.{◌≡◌, ℕ, suc, Bool, true, List, [], ◌∷◌, ◌++◌, refl, ap, ◌∙◌, append_assoc}
+use Rattle.wm_syntax.specs.Profiles.{HasMode}
+use Rattle.wm_syntax.specs.declared.modules.SegmentMode.TheVariants.{Passive, Active}
+use Rattle.wm_syntax.specs.declared.modules.SegmentMode.{SegmentMode}
+use Rattle.wm_tokens.specs.Fields.{WritesMode}
 use Rattle.std.specs.Prelude.{IsTrue}
 use Rattle.wm_syntax.specs.Spelling.{Form, ◌▸◌}
 use Rattle.wm_syntax.specs.declared.types.ValType.{ValType}
@@ -13,7 +17,7 @@ use Rattle.wm_syntax.proofs.ProfileLaws.{every_has_simple, module_of_every}
 use Rattle.wm_tokens.specs.Tokens.{Token, open_paren, close_paren, atom}
 use Rattle.wm_tokens.specs.Identifiers.{Ids, Resolves}
 use Rattle.wm_tokens.specs.Written.{Named, WritesGroups, Names, TypeUse, Scope, WritesInstructions}
-use Rattle.wm_tokens.specs.Fields.{WritesName, WritesLimits, WritesTableType, WritesGlobalType, WritesConst, WritesExport, WritesStrings, WritesOffset, WritesTarget, WritesFunctions}
+use Rattle.wm_tokens.specs.Fields.{WritesName, WritesLimits, WritesTableType, WritesGlobalType, WritesConst, WritesExport, WritesStrings, WritesFunctions}
 use Rattle.wm_read.specs.exact.FirstReading.{skip}
 use Rattle.wm_bodies.specs.exact.Reading.{is_word}
 use Rattle.wm_read.proofs.WrittenForms.{Closed, keeps_then, keeps_groups, keeps_use, keeps_index, keeps_instructions, keeps_limits, keeps_table_type, keeps_global_type, keeps_const, keeps_export, keeps_element, keeps_segment}
@@ -77,8 +81,12 @@ balanced_export = keeps_export Balanced Any closed every any
 pub balanced_start : (names : Names) (x : ℕ) → AllBalanced (Resolves names.functions x)
 balanced_start names x = keeps_index Balanced Any closed every any names.functions x
 
-pub balanced_element : (names : Names) (e : Element) → AllBalanced (WritesTarget names.tables e.table ▸ WritesOffset names e.offset ▸ WritesFunctions names.functions e.functions)
-balanced_element names e = keeps_element Balanced Any closed every any names e (every_has_simple (constant e.offset))
+every_has_mode : (d : SegmentMode) → HasMode every d
+every_has_mode Passive = refl
+every_has_mode (Active x c) = every_has_simple (constant c)
 
-pub balanced_segment : (names : Names) (s : Segment) → AllBalanced (WritesTarget names.memories s.memory ▸ WritesOffset names s.offset ▸ WritesStrings s.bytes)
-balanced_segment names s = keeps_segment Balanced Any closed every any names s (every_has_simple (constant s.offset))
+pub balanced_element : (names : Names) (e : Element) → AllBalanced (WritesMode names names.tables e.mode ▸ WritesFunctions names.functions e.mode e.functions)
+balanced_element names e = keeps_element Balanced Any closed every any names e (every_has_mode e.mode)
+
+pub balanced_segment : (names : Names) (s : Segment) → AllBalanced (WritesMode names names.memories s.mode ▸ WritesStrings s.bytes)
+balanced_segment names s = keeps_segment Balanced Any closed every any names s (every_has_mode s.mode)

@@ -1,6 +1,8 @@
 -- A text with a lexical error writes no module. Under a profile without floats, the atoms of a module are identifiers,
 -- numbers and keywords.
 use Rattle.std.proofs.Common.{◌≡◌, ℕ, Bool, true, false, List, [], ◌∷◌, ◌++◌, refl, sym, ap, subst, ◌∙◌, inl, inr, append_assoc}
+use Rattle.wm_syntax.specs.Profiles.{HasMode}
+use Rattle.wm_tokens.specs.Fields.{WritesMode}
 use Rattle.std.proofs.lemmas.List.{append-nil}
 use Rattle.std.specs.List.{AllByRecursion}
 use Rattle.std.specs.Prelude.{IsTrue, codes, filter_map, map}
@@ -18,7 +20,7 @@ use Rattle.wm_tokens.specs.TokenFaults.{IsAmong, LeadsTo, FirstFault}
 use Rattle.wm_tokens.specs.TokenFaults as lead
 use Rattle.wm_tokens.specs.Identifiers.{Id, WritesId, Resolves}
 use Rattle.wm_tokens.specs.Written.{Paren, WritesGroups, WritesResults, Names, Scope, TypeUse, WritesInstructions, ids_of}
-use Rattle.wm_tokens.specs.Fields.{Field, type_field, import_field, function_field, table_field, memory_field, global_field, export_field, start_field, element_field, segment_field, WritesName, WritesSignature, WritesLimits, WritesTableType, WritesGlobalType, WritesConst, WritesDesc, WritesExport, WritesOffset, WritesTarget, WritesFunctions, WritesStrings, WritesField, Writes, function_of, global_of, element_of, segment_of, names_of}
+use Rattle.wm_tokens.specs.Fields.{Field, type_field, import_field, function_field, table_field, memory_field, global_field, export_field, start_field, element_field, segment_field, WritesName, WritesSignature, WritesLimits, WritesTableType, WritesGlobalType, WritesConst, WritesDesc, WritesExport, WritesFunctions, WritesStrings, WritesField, Writes, function_of, global_of, element_of, segment_of, names_of}
 use Rattle.wm_read.specs.Spellings.{IsTextOf, replaced}
 use Rattle.wm_tokens.specs.declared.faults.TextWhy.{TextWhy}
 use Rattle.wm_read.specs.declared.spellings.Spellings.{Spellings}
@@ -95,8 +97,8 @@ module _ (p : Profile) (none : has p Floats ≡ false) where
   abbrev IsFine : Field → Type 0
   IsFine (function_field id f) = HasInstructions p f.body
   IsFine (global_field id g) = HasConst p g.init
-  IsFine (element_field e) = HasConst p e.offset
-  IsFine (segment_field s) = HasConst p s.offset
+  IsFine (element_field e) = HasMode p e.mode
+  IsFine (segment_field s) = HasMode p s.mode
   IsFine _ = Unit {0}
 
   plain_field : (names : Names) (x : Field) → IsFine x → AllPlain (WritesField names x)
@@ -126,10 +128,10 @@ module _ (p : Profile) (none : has p Floats ≡ false) where
   plain_field names (start_field x) fine f h =
       paren (codes "start") refl (Resolves names.functions x) (keeps_index Plain IsPlain closed p float names.functions x) f h
   plain_field names (element_field e) fine f h =
-      paren (codes "elem") refl (WritesTarget names.tables e.table ▸ WritesOffset names e.offset ▸ WritesFunctions names.functions e.functions)
+      paren (codes "elem") refl (WritesMode names names.tables e.mode ▸ WritesFunctions names.functions e.mode e.functions)
       (keeps_element Plain IsPlain closed p float names e fine) f h
   plain_field names (segment_field s) fine f h =
-      paren (codes "data") refl (WritesTarget names.memories s.memory ▸ WritesOffset names s.offset ▸ WritesStrings s.bytes)
+      paren (codes "data") refl (WritesMode names names.memories s.mode ▸ WritesStrings s.bytes)
       (keeps_segment Plain IsPlain closed p float names s fine) f h
 
   plain_fields : (names : Names) (fields : List Field) → AllByRecursion IsFine fields → AllPlain (Each (WritesField names) fields)
@@ -138,7 +140,7 @@ module _ (p : Profile) (none : has p Floats ≡ false) where
       subst Plain (sym e) (plain_join a b (plain_field names x fine.0 a u) (plain_fields names fields fine.1 b v))
 
   all_fine : (fields : List Field) → AllByRecursion (HasFunction p) (filter_map function_of fields) → AllByRecursion (HasGlobal p) (filter_map global_of fields)
-      → AllByRecursion (λ e. HasConst p e.offset) (filter_map element_of fields) → AllByRecursion (λ s. HasConst p s.offset) (filter_map segment_of fields) → AllByRecursion IsFine fields
+      → AllByRecursion (λ e. HasMode p e.mode) (filter_map element_of fields) → AllByRecursion (λ s. HasMode p s.mode) (filter_map segment_of fields) → AllByRecursion IsFine fields
   all_fine [] f g e s = tt
   all_fine (type_field id t ∷ fields) f g e s = (tt, all_fine fields f g e s)
   all_fine (import_field id i ∷ fields) f g e s = (tt, all_fine fields f g e s)

@@ -7,26 +7,26 @@ use Rattle.wm_syntax.specs.declared.types.GlobalType.{GlobalType}
 use Rattle.wm_syntax.specs.declared.modules.ExportKind.{ExportKind}
 use Rattle.wm_syntax.specs.declared.profile.Profile.{Profile}
 use Rattle.wm_syntax.specs.Modules.{Function}
-use Rattle.wm_syntax.specs.Profiles.{HasConst, HasDesc, HasFunction, HasGlobal, HasSignature, IsOf}
+use Rattle.wm_syntax.specs.Profiles.{HasDesc, HasFunction, HasGlobal, HasMode, HasSignature, IsOf}
 use Rattle.wm_syntax.specs.Types.{Signature}
 use Rattle.wm_tokens.specs.Tokens.{Token, open_paren, close_paren, string, atom}
 use Rattle.wm_tokens.specs.Identifiers.{WritesId, Resolves}
 use Rattle.wm_tokens.specs.Written.{Names, Paren}
-use Rattle.wm_tokens.specs.Fields.{Field, type_field, import_field, function_field, table_field, memory_field, global_field, export_field, start_field, element_field, segment_field, HasDistinct, WritesExport, WritesField, WritesFunctions, WritesLimits, WritesName, WritesStrings, WritesTableType, WritesTarget, module_of}
+use Rattle.wm_tokens.specs.Fields.{Field, type_field, import_field, function_field, table_field, memory_field, global_field, export_field, start_field, element_field, segment_field, HasDistinct, WritesExport, WritesField, WritesFunctions, WritesLimits, WritesName, WritesStrings, WritesTableType, module_of}
 use Rattle.wm_read.specs.declared.fields.keywords.FieldKind.{FieldKind}
 use Rattle.wm_read.specs.declared.fields.keywords.FieldKind.TheVariants as kind
 use Rattle.wm_bodies.specs.exact.Reading.{atom_at, id_at, index_of, then_at}
 use Rattle.wm_bodies.specs.exact.TypeUses.{begins_open}
 use Rattle.wm_read.specs.exact.Signatures.{signature_at}
 use Rattle.wm_read.specs.exact.FieldTypes.{limits_at, table_type_at, global_type_at}
-use Rattle.wm_read.specs.exact.Fields.{field_word, field_named, name_at, bytes_at, const_at, offset_at, target_at, functions_at, desc_at, item_at, function_at, inside_at, field_at, fields_at}
-use Rattle.wm_read.proofs.FieldParts.{OfConst, OfDesc, OfOffset, headed_sound, headed_complete, with_found, name_sound, name_complete, bytes_sound, bytes_complete, const_sound, const_complete, offset_sound, offset_complete, offset_opens, desc_sound, desc_complete, item_sound, item_complete, number_not_id, table_not_id, type_not_id, use_not_id, close_number}
+use Rattle.wm_read.specs.exact.Fields.{field_word, field_named, name_at, begins_func, begins_strings, bytes_at, const_at, mode_at, functions_at, desc_at, item_at, function_at, inside_at, field_at, fields_at}
+use Rattle.wm_read.proofs.FieldParts.{OfConst, OfDesc, headed_sound, headed_complete, with_found, name_sound, name_complete, const_sound, const_complete, desc_sound, desc_complete, item_sound, item_complete, number_not_id, table_not_id, type_not_id, use_not_id, close_number}
 use Rattle.wm_read.proofs.FieldTypes.{NoNumber, OfGlobalType, limits_sound, limits_complete, table_type_sound, table_type_complete, global_type_sound, global_type_complete}
 use Rattle.wm_read.proofs.FunctionLaws.{FunctionAt, function_sound, function_complete}
 use Rattle.wm_bodies.proofs.Immediates.{NotId, id_sound, id_complete}
 use Rattle.wm_bodies.proofs.Indices.{index_sound, index_complete}
 use Rattle.wm_bodies.proofs.Readers.{Sound, Complete, Any, Both, Begins, BeginsClose, made_is, made_sound, many_complete, many_sound, then_complete, then_sound}
-use Rattle.wm_read.proofs.SegmentParts.{Opens, functions_complete, functions_sound, target_complete, target_sound}
+use Rattle.wm_read.proofs.SegmentParts.{OfMode, element_complete, element_sound, mode_of, mode_written, segment_complete, segment_sound}
 use Rattle.wm_read.proofs.SignatureLaws.{OfSignature, signature_sound, signature_complete}
 use Rattle.wm_bodies.proofs.TypeUseLaws.{KnowsTypes}
 
@@ -44,14 +44,14 @@ kind_of (start_field x) = kind.Start
 kind_of (element_field e) = kind.Elem
 kind_of (segment_field s) = kind.Data
 
--- the types, constants and instructions of a field are of the profile
+-- the types, constants, instructions and the mode of a field are of the profile
 abbrev pub FieldOf : Profile → Field → Type 0
 FieldOf p (type_field id f) = HasSignature p f
 FieldOf p (import_field id i) = HasDesc p i.desc
 FieldOf p (function_field id f) = HasFunction p f
 FieldOf p (global_field id g) = HasGlobal p g
-FieldOf p (element_field e) = HasConst p e.offset
-FieldOf p (segment_field s) = HasConst p s.offset
+FieldOf p (element_field e) = HasMode p e.mode
+FieldOf p (segment_field s) = HasMode p s.mode
 FieldOf p _ = Unit {0}
 
 abbrev Item : Names → ExportKind × ℕ → Form Token
@@ -67,8 +67,8 @@ Inside p Fn names (memory_field id l) = WritesId id ▸ WritesLimits l
 Inside p Fn names (global_field id g) = WritesId id ▸ OfGlobalType p g.ty ▸ OfConst p names g.init
 Inside p Fn names (export_field e) = WritesName e.name ▸ Item names (e.kind, e.index)
 Inside p Fn names (start_field x) = Resolves names.functions x
-Inside p Fn names (element_field e) = WritesTarget names.tables e.table ▸ OfOffset p names e.offset ▸ WritesFunctions names.functions e.functions
-Inside p Fn names (segment_field s) = WritesTarget names.memories s.memory ▸ OfOffset p names s.offset ▸ WritesStrings s.bytes
+Inside p Fn names (element_field e) = OfMode p names names.tables e.mode ▸ WritesFunctions names.functions e.mode e.functions
+Inside p Fn names (segment_field s) = OfMode p names names.memories s.mode ▸ WritesStrings s.bytes
 
 abbrev Written : Profile → Names → Field → Form Token
 Written p names f k = WritesField names f k × FieldOf p f
@@ -85,10 +85,12 @@ to_field p names (global_field id g) k (a, b, e, w, (x, c, e2, (y, z, e3, i, (u,
     ((a, b, e, w, (x, c, e2, (y, z, e3, i, (u, v, e4, h, m)), l)), (of, ofc))
 to_field p names (export_field e) k h = (h, tt)
 to_field p names (start_field x) k h = (h, tt)
-to_field p names (element_field d) k (a, b, e, w, (x, c, e2, (y, z, e3, i, (u, v, e4, (h, of), m)), l)) =
-    ((a, b, e, w, (x, c, e2, (y, z, e3, i, (u, v, e4, h, m)), l)), of)
-to_field p names (segment_field d) k (a, b, e, w, (x, c, e2, (y, z, e3, i, (u, v, e4, (h, of), m)), l)) =
-    ((a, b, e, w, (x, c, e2, (y, z, e3, i, (u, v, e4, h, m)), l)), of)
+to_field p names (element_field d) k (a, b, e, w, (x, c, e2, (y, z, e3, h, m), l)) =
+    let both = mode_written p names names.tables d.mode y h in
+    ((a, b, e, w, (x, c, e2, (y, z, e3, both.0, m), l)), both.1)
+to_field p names (segment_field d) k (a, b, e, w, (x, c, e2, (y, z, e3, h, m), l)) =
+    let both = mode_written p names names.memories d.mode y h in
+    ((a, b, e, w, (x, c, e2, (y, z, e3, both.0, m), l)), both.1)
 
 from_field : (p : Profile) (names : Names) (f : Field) (k : List Token) → Written p names f k → Paren (field_word (kind_of f)) (Inside p (FunctionAt p names) names f) k
 from_field p names (type_field id f) k ((a, b, e, w, (x, c, e2, (y, z, e3, i, h), l)), of) = (a, b, e, w, (x, c, e2, (y, z, e3, i, (h, of)), l))
@@ -102,10 +104,10 @@ from_field p names (global_field id g) k ((a, b, e, w, (x, c, e2, (y, z, e3, i, 
     (a, b, e, w, (x, c, e2, (y, z, e3, i, (u, v, e4, (h, of.0), (m, of.1))), l))
 from_field p names (export_field e) k (h, of) = h
 from_field p names (start_field x) k (h, of) = h
-from_field p names (element_field d) k ((a, b, e, w, (x, c, e2, (y, z, e3, i, (u, v, e4, h, m)), l)), of) =
-    (a, b, e, w, (x, c, e2, (y, z, e3, i, (u, v, e4, (h, of), m)), l))
-from_field p names (segment_field d) k ((a, b, e, w, (x, c, e2, (y, z, e3, i, (u, v, e4, h, m)), l)), of) =
-    (a, b, e, w, (x, c, e2, (y, z, e3, i, (u, v, e4, (h, of), m)), l))
+from_field p names (element_field d) k ((a, b, e, w, (x, c, e2, (y, z, e3, h, m), l)), of) =
+    (a, b, e, w, (x, c, e2, (y, z, e3, mode_of p names names.tables d.mode y h of, m), l))
+from_field p names (segment_field d) k ((a, b, e, w, (x, c, e2, (y, z, e3, h, m), l)), of) =
+    (a, b, e, w, (x, c, e2, (y, z, e3, mode_of p names names.memories d.mode y h of, m), l))
 
 abbrev pub OfKind : Profile → (Function → Form Token) → Names → FieldKind → Field → Form Token
 OfKind p Fn names x f k = (kind_of f ≡ x) × Inside p Fn names f k
@@ -143,15 +145,11 @@ module _ (p : Profile) (names : Names) (Fn : Function → Form Token) (fn_sound 
       (then_sound name_at (item_at names) WritesName (Item names) name_sound (item_sound names)) (λ x front h. (refl, h))
   inside_sound kind.Start = made_sound start_field (atom_at (index_of names.functions)) (Resolves names.functions) (OfKind p Fn names kind.Start) (index_sound names.functions) (λ x front h. (refl, h))
   inside_sound kind.Elem =
-      made_sound (λ x. element_field (record { table = x.0; offset = x.1.0; functions = x.1.1 })) (then_at (target_at names.tables) (then_at (offset_at p names) (functions_at names.functions)))
-      (Both (WritesTarget names.tables) (Both (OfOffset p names) (WritesFunctions names.functions))) (OfKind p Fn names kind.Elem)
-      (then_sound (target_at names.tables) (then_at (offset_at p names) (functions_at names.functions)) (WritesTarget names.tables) (Both (OfOffset p names) (WritesFunctions names.functions)) (target_sound names.tables)
-      (then_sound (offset_at p names) (functions_at names.functions) (OfOffset p names) (WritesFunctions names.functions) (offset_sound p names) (functions_sound names.functions))) (λ x front h. (refl, h))
+      made_sound (λ x. element_field (record { mode = x.0; functions = x.1 })) (then_at (mode_at p names names.tables begins_func) (functions_at names.functions))
+      (λ x. OfMode p names names.tables x.0 ▸ WritesFunctions names.functions x.0 x.1) (OfKind p Fn names kind.Elem) (element_sound p names) (λ x front h. (refl, h))
   inside_sound kind.Data =
-      made_sound (λ x. segment_field (record { memory = x.0; offset = x.1.0; bytes = x.1.1 })) (then_at (target_at names.memories) (then_at (offset_at p names) bytes_at))
-      (Both (WritesTarget names.memories) (Both (OfOffset p names) WritesStrings)) (OfKind p Fn names kind.Data)
-      (then_sound (target_at names.memories) (then_at (offset_at p names) bytes_at) (WritesTarget names.memories) (Both (OfOffset p names) WritesStrings) (target_sound names.memories)
-      (then_sound (offset_at p names) bytes_at (OfOffset p names) WritesStrings (offset_sound p names) bytes_sound)) (λ x front h. (refl, h))
+      made_sound (λ x. segment_field (record { mode = x.0; bytes = x.1 })) (then_at (mode_at p names names.memories begins_strings) bytes_at) (Both (OfMode p names names.memories) WritesStrings) (OfKind p Fn names kind.Data)
+      (segment_sound p names) (λ x front h. (refl, h))
 
   pub field_front : Sound (field_at p names) (λ f k. (x : FieldKind) × Paren (field_word x) (OfKind p Fn names x f) k)
   unfolding field_at
@@ -194,10 +192,6 @@ module _ (p : Profile) (names : Names) (d : HasDistinct names) (knows : KnowsTyp
   global_not_id : (y : GlobalType × Const) (front rest : List Token) → Both (OfGlobalType p) (OfConst p names) y front → NotId (front ++ rest)
   global_not_id y front rest (a, b, e, w, m) = subst NotId (sym (ap (λ (z : List Token). z ++ rest) e ∙ append_assoc a b rest)) (type_not_id y.0.var y.0.ty a (b ++ rest) w.0)
 
-  -- an offset comes first
-  offset_first : (c : Const) (P : Form Token) (front rest : List Token) → (OfOffset p names c ▸ P) front → Opens (front ++ rest)
-  offset_first c P front rest (a, b, e, h, more) = ap (λ (z : List Token). begins_open (z ++ rest)) e ∙ ap begins_open (append_assoc a b rest) ∙ offset_opens p names c a (b ++ rest) h
-
   inside_complete : (f : Field) (front rest : List Token) → Inside p (FunctionAt p names) names f front → BeginsClose rest → inside_at p names (kind_of f) (front ++ rest) ≡ Some (f, rest)
   inside_complete (type_field id f) front rest h c =
       made_is (λ x. type_field x.0 x.1) (then_at id_at (signature_at p) (front ++ rest)) (id, f) rest
@@ -226,19 +220,11 @@ module _ (p : Profile) (names : Names) (d : HasDistinct names) (knows : KnowsTyp
       (then_complete name_at (item_at names) WritesName (Item names) Any Any name_complete (item_complete names d) (λ y a b w g. tt) (e.name, (e.kind, e.index)) front rest h tt)
   inside_complete (start_field x) front rest h c = made_is start_field (atom_at (index_of names.functions) (front ++ rest)) x rest (index_complete names.functions d.functions x front rest h tt)
   inside_complete (element_field e) front rest h c =
-      made_is (λ x. element_field (record { table = x.0; offset = x.1.0; functions = x.1.1 })) (then_at (target_at names.tables) (then_at (offset_at p names) (functions_at names.functions)) (front ++ rest))
-      (e.table, (e.offset, e.functions)) rest
-      (then_complete (target_at names.tables) (then_at (offset_at p names) (functions_at names.functions)) (WritesTarget names.tables) (Both (OfOffset p names) (WritesFunctions names.functions)) Opens BeginsClose
-      (target_complete names.tables d.tables)
-      (then_complete (offset_at p names) (functions_at names.functions) (OfOffset p names) (WritesFunctions names.functions) Any BeginsClose (offset_complete p names d) (functions_complete names.functions d.functions) (λ y a b w g. tt))
-      (λ y a b w g. offset_first y.0 (WritesFunctions names.functions y.1) a b w) (e.table, (e.offset, e.functions)) front rest h c)
+      made_is (λ x. element_field (record { mode = x.0; functions = x.1 })) (then_at (mode_at p names names.tables begins_func) (functions_at names.functions) (front ++ rest)) (e.mode, e.functions) rest
+      (element_complete p names d (e.mode, e.functions) front rest h c)
   inside_complete (segment_field s) front rest h c =
-      made_is (λ x. segment_field (record { memory = x.0; offset = x.1.0; bytes = x.1.1 })) (then_at (target_at names.memories) (then_at (offset_at p names) bytes_at) (front ++ rest))
-      (s.memory, (s.offset, s.bytes)) rest
-      (then_complete (target_at names.memories) (then_at (offset_at p names) bytes_at) (WritesTarget names.memories) (Both (OfOffset p names) WritesStrings) Opens BeginsClose
-      (target_complete names.memories d.memories)
-      (then_complete (offset_at p names) bytes_at (OfOffset p names) WritesStrings Any BeginsClose (offset_complete p names d) bytes_complete (λ y a b w g. tt))
-      (λ y a b w g. offset_first y.0 (WritesStrings y.1) a b w) (s.memory, (s.offset, s.bytes)) front rest h c)
+      made_is (λ x. segment_field (record { mode = x.0; bytes = x.1 })) (then_at (mode_at p names names.memories begins_strings) bytes_at (front ++ rest)) (s.mode, s.bytes) rest
+      (segment_complete p names d (s.mode, s.bytes) front rest h c)
 
   -- ---- a field
 

@@ -18,6 +18,7 @@ use Rattle.wm_syntax.specs.declared.modules.ImportDesc.TheVariants as desc
 use Rattle.wm_syntax.specs.declared.modules.ExportKind.{ExportKind}
 use Rattle.wm_syntax.specs.declared.modules.ExportKind.TheVariants as kind
 use Rattle.wm_syntax.specs.declared.instructions.op_class.Immediates.{Immediates}
+use Rattle.wm_syntax.specs.declared.instructions.op_class.Indexed.TheVariants as indexed
 use Rattle.wm_syntax.specs.declared.instructions.op_class.Immediates.TheVariants as k
 use Rattle.wm_syntax.specs.declared.instructions.op_class.OpClass.{OpClass}
 use Rattle.wm_syntax.specs.declared.instructions.op_class.OpClass.TheVariants as class
@@ -176,7 +177,7 @@ module _ (p : Profile) (names : Names) where
   kind_piece w k.I64Const t c rest n e = number_piece const.I64 (atom_at (integer_of 64)) w k.I64Const t c rest n (λ k. refl) e
   kind_piece w k.F32Const t c rest n e = number_piece const.F32 (atom_at (float_of float.F32)) w k.F32Const t c rest n (λ k. refl) e
   kind_piece w k.F64Const t c rest n e = number_piece const.F64 (atom_at (float_of float.F64)) w k.F64Const t c rest n (λ k. refl) e
-  kind_piece w k.GlobalGet t c rest n e = number_piece const.Global (atom_at (index_of names.globals)) w k.GlobalGet t c rest n (λ k. refl) e
+  kind_piece w (k.Index indexed.GlobalGet) t c rest n e = number_piece const.Global (atom_at (index_of names.globals)) w (k.Index indexed.GlobalGet) t c rest n (λ k. refl) e
   kind_piece w _ t c rest n e = absurd cc
 
   class_piece : (w : List ℕ) (o : OpClass) (t : List Token) (c : Const) (rest : List Token) → class_named p w ≡ o → const_class names o t ≡ Some (c, rest)

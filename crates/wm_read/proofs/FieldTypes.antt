@@ -15,16 +15,10 @@ use Rattle.wm_read.specs.exact.FieldTypes.{const_type, global_type_at, limits_at
 use Rattle.wm_bodies.specs.exact.Reading.{◌>>=◌, atom_at, is_id, is_word, paren_at, then_at, type_of, unsigned_of, word_of}
 use Rattle.wm_tokens.proofs.Basics.{chosen, same_some}
 use Rattle.wm_bodies.proofs.Immediates.{OfType, number_not_word, type_complete, type_sound}
-use Rattle.wm_bodies.proofs.Indices.{number_not_id, unsigned_found, unsigned_more}
-use Rattle.wm_bodies.proofs.Readers.{Sound, Complete, Any, Both, atom_complete, atom_sound, bind_is, bind_ok, made_is, made_sound, paren_complete, paren_sound, then_complete, then_sound, word_found, word_is}
+use Rattle.wm_bodies.proofs.Indices.{number_complete, number_not_id, number_sound, unsigned_found, unsigned_more}
+use Rattle.wm_bodies.proofs.Readers.{Sound, Complete, Any, Both, bind_is, bind_ok, made_is, made_sound, paren_complete, paren_sound, then_complete, then_sound, word_found, word_is}
 
 -- ---- limits
-
-number_sound : Sound (atom_at unsigned_of) UnsignedNumber
-number_sound = atom_sound unsigned_of (IsUnsigned 32) unsigned_found
-
-number_complete : Complete (atom_at unsigned_of) UnsignedNumber Any
-number_complete = atom_complete unsigned_of (IsUnsigned 32) unsigned_more
 
 no_number : (n : ℕ) (a : List ℕ) → IsUnsigned 32 n a → (is_word a || is_id a) ≡ false
 no_number n a u = by (unsigned_more a n u)
@@ -126,12 +120,3 @@ table_type_complete l front rest h f =
     made_is (λ x. x.0) (then_at limits_at (atom_at (word_of (codes "funcref"))) (front ++ rest)) (l, tt) rest
     (then_complete limits_at (atom_at (word_of (codes "funcref"))) WritesLimits (λ u. Keyword (codes "funcref")) NoNumber Any limits_complete (word_complete (codes "funcref"))
     (λ u g r w i. subst (λ (z : List Token). NoNumber (z ++ r)) (sym w) refl) (l, tt) front rest h f)
-
--- ---- the code
-
-pub id_no_number : (a : List ℕ) → is_id a ≡ true → unsigned_of a ≡ None
-id_no_number a h = by (unsigned_of a) refl
-  where
-    by : (o : Option ℕ) → unsigned_of a ≡ o → unsigned_of a ≡ None
-    by None e = e
-    by (Some n) e = absurd (let g = bind_ok _ _ n e in let f : true ≡ false = sym h ∙ number_not_id g.0 a g.1 in cc)

@@ -1,5 +1,6 @@
 -- The first pass notes what the tokens of fields write, and checks the rules on order and identifiers.
 use Rattle.std.proofs.Common.{◌≡◌, ℕ, zero, suc, ◌<◌, Bool, true, false, cond, List, [], ◌∷◌, ◌++◌, length, Option, Some, None, refl, sym, ap, subst, ◌∙◌, arith, append_assoc, length-append}
+use Rattle.wm_tokens.specs.Fields.{WritesMode}
 use Rattle.std.specs.Prelude.{codes, not, ◌&&◌}
 use Rattle.std.proofs.lemmas.Bool.{cond-true, cond-false}
 use Rattle.wm_syntax.specs.Spelling.{Form, Each, ◌▸◌}
@@ -17,7 +18,7 @@ use Rattle.wm_syntax.specs.Profiles.{HasSignature}
 use Rattle.wm_tokens.specs.Tokens.{Token, open_paren, close_paren, atom}
 use Rattle.wm_tokens.specs.Identifiers.{Id, WritesId, Resolves}
 use Rattle.wm_tokens.specs.Written.{Keyword, Paren, UnsignedNumber, WritesType, Named, WritesGroups, Names, TypeUse, WritesInstructions, ids_of}
-use Rattle.wm_tokens.specs.Fields.{Field, type_field, import_field, function_field, table_field, memory_field, global_field, export_field, start_field, element_field, segment_field, WritesName, WritesSignature, WritesMax, WritesLimits, WritesTableType, WritesGlobalType, WritesConst, WritesDesc, WritesExport, WritesOffset, WritesTarget, WritesFunctions, WritesStrings, WritesField, names_of}
+use Rattle.wm_tokens.specs.Fields.{Field, type_field, import_field, function_field, table_field, memory_field, global_field, export_field, start_field, element_field, segment_field, WritesName, WritesSignature, WritesMax, WritesLimits, WritesTableType, WritesGlobalType, WritesConst, WritesDesc, WritesExport, WritesFunctions, WritesStrings, WritesField, names_of}
 use Rattle.wm_read.specs.exact.Fields.{name_at, space_of}
 use Rattle.wm_read.specs.exact.FirstReading.{Noted, with_item, with_type, free_id_at, skip, type_head_at, desc_head_at, import_head_at, item_head_at, head_by, head_at, heads_within, heads_at}
 use Rattle.wm_read.specs.exact.Signatures.{signature_at}
@@ -248,13 +249,13 @@ head_is pr names s (start_field x) front rest of h =
     ∙ once s.started (◌>>=◌ {B = Noted × List Token} (skip 1 (g.0 ++ close_paren ∷ rest)) (λ r. Some (record s { started = true }, r))) (record s { started = true }, rest)
     (other_is (record s { started = true }) (Resolves names.functions x) (balanced_start names x) g.0 rest g.1)
 head_is pr names s (element_field e) front rest of h =
-    let g = inside (codes "elem") (WritesTarget names.tables e.table ▸ WritesOffset names e.offset ▸ WritesFunctions names.functions e.functions) front h in
+    let g = inside (codes "elem") (WritesMode names names.tables e.mode ▸ WritesFunctions names.functions e.mode e.functions) front h in
     ap (head_at pr s) (g.2 rest)
-    ∙ other_is s (WritesTarget names.tables e.table ▸ WritesOffset names e.offset ▸ WritesFunctions names.functions e.functions) (balanced_element names e) g.0 rest g.1
+    ∙ other_is s (WritesMode names names.tables e.mode ▸ WritesFunctions names.functions e.mode e.functions) (balanced_element names e) g.0 rest g.1
 head_is pr names s (segment_field d) front rest of h =
-    let g = inside (codes "data") (WritesTarget names.memories d.memory ▸ WritesOffset names d.offset ▸ WritesStrings d.bytes) front h in
+    let g = inside (codes "data") (WritesMode names names.memories d.mode ▸ WritesStrings d.bytes) front h in
     ap (head_at pr s) (g.2 rest)
-    ∙ other_is s (WritesTarget names.memories d.memory ▸ WritesOffset names d.offset ▸ WritesStrings d.bytes) (balanced_segment names d) g.0 rest g.1
+    ∙ other_is s (WritesMode names names.memories d.mode ▸ WritesStrings d.bytes) (balanced_segment names d) g.0 rest g.1
 
 -- ---- all fields
 

@@ -1,6 +1,10 @@
 -- A property of the tokens that write any part of a module. It must hold of single tokens, and be kept where token
 -- lists are joined or put in parentheses.
 use Rattle.std.proofs.Common.{◌≡◌, ℕ, Bool, true, false, List, [], ◌∷◌, ◌++◌, Option, Some, None, refl, sym, ap, subst, ◌∙◌, inl, inr}
+use Rattle.wm_tokens.specs.Fields.{WritesMode}
+use Rattle.wm_syntax.specs.Profiles.{HasMode}
+use Rattle.wm_syntax.specs.declared.modules.SegmentMode.TheVariants.{Passive, Active}
+use Rattle.wm_syntax.specs.declared.modules.SegmentMode.{SegmentMode}
 use Rattle.std.specs.Prelude.{◌^◌, ℤ, IsTrue, codes, map}
 use Rattle.wm_syntax.specs.Spelling.{Form, Exactly, Each, ◌▸◌, ◌∣◌}
 use Rattle.wm_syntax.specs.declared.types.ValType.{ValType}
@@ -9,7 +13,7 @@ use Rattle.wm_syntax.specs.declared.types.Const.{Const}
 use Rattle.wm_syntax.specs.declared.types.Limits.{Limits}
 use Rattle.wm_syntax.specs.declared.instructions.MemArg.{MemArg}
 use Rattle.wm_syntax.specs.declared.instructions.Simple.{Simple}
-use Rattle.wm_syntax.specs.declared.instructions.Simple.TheVariants.{Unreachable, Nop, Return, Drop, Select, Br, BrIf, Call, CallIndirect, LocalGet, LocalSet, LocalTee, GlobalGet, GlobalSet, MemorySize, MemoryGrow, MemoryCopy, MemoryFill, I32Const, I64Const, F32Const, F64Const, Load, Store, Numeric}
+use Rattle.wm_syntax.specs.declared.instructions.Simple.TheVariants.{Unreachable, Nop, Return, Drop, Select, Br, BrIf, Call, CallIndirect, LocalGet, LocalSet, LocalTee, GlobalGet, GlobalSet, MemorySize, MemoryGrow, MemoryCopy, MemoryFill, MemoryInit, DataDrop, TableInit, ElemDrop, TableCopy, I32Const, I64Const, F32Const, F64Const, Load, Store, Numeric}
 use Rattle.wm_syntax.specs.declared.modules.ExportKind.{ExportKind}
 use Rattle.wm_syntax.specs.declared.modules.ExportKind.TheVariants as kind
 use Rattle.wm_syntax.specs.declared.profile.Profile.{Profile}
@@ -154,6 +158,11 @@ module _ (B : List Token → Type 0) (A : List ℕ → Type 0) (c : Closed B A) 
   keeps_operand s labels (GlobalSet x) has = keeps_index s.names.globals x
   keeps_operand s labels MemorySize has = keeps_nil
   keeps_operand s labels MemoryGrow has = keeps_nil
+  keeps_operand s labels (MemoryInit x) has = keeps_one (IsUnsigned 32) x (unsigned 32 x)
+  keeps_operand s labels (DataDrop x) has = keeps_one (IsUnsigned 32) x (unsigned 32 x)
+  keeps_operand s labels (TableInit x) has = keeps_one (IsUnsigned 32) x (unsigned 32 x)
+  keeps_operand s labels (ElemDrop x) has = keeps_one (IsUnsigned 32) x (unsigned 32 x)
+  keeps_operand s labels TableCopy has = keeps_nil
   keeps_operand s labels MemoryCopy has = keeps_nil
   keeps_operand s labels MemoryFill has = keeps_nil
   keeps_operand s labels (I32Const n) has = λ f h. keeps_atom h.0 (integer 32 n h.0 h.2) f h.1
@@ -275,26 +284,28 @@ module _ (B : List Token → Type 0) (A : List ℕ → Type 0) (c : Closed B A) 
 
   keeps_target : (ids : Ids) (x : ℕ) → Keeps (WritesTarget ids x)
   keeps_target ids x f (inl h) = keeps_index ids x f h
-  keeps_target ids x f (inr (first, own, free, h)) = keeps_id own f h
+  keeps_target ids x f (inr (first, (own, free, h))) = keeps_id own f h
 
-  keeps_functions : (ids : Ids) (xs : List ℕ) → Keeps (WritesFunctions ids xs)
-  keeps_functions ids xs = keeps_then (Nothing ∣ Keyword (codes "func")) (Each (Resolves ids) xs) word (keeps_each (Resolves ids) (keeps_index ids) xs)
+  keeps_functions : (ids : Ids) (d : SegmentMode) (xs : List ℕ) → Keeps (WritesFunctions ids d xs)
+  keeps_functions ids Passive xs = keeps_then (Keyword (codes "func")) (Each (Resolves ids) xs) (keeps_word (codes "func") refl) (keeps_each (Resolves ids) (keeps_index ids) xs)
+  keeps_functions ids (Active x offset) xs = keeps_then (Nothing ∣ Keyword (codes "func")) (Each (Resolves ids) xs) word (keeps_each (Resolves ids) (keeps_index ids) xs)
     where
       word : Keeps (Nothing ∣ Keyword (codes "func"))
       word f (inl h) = keeps_nil f h
       word f (inr h) = keeps_word (codes "func") refl f h
 
+  keeps_mode : (names : Names) (ids : Ids) (d : SegmentMode) → HasMode p d → Keeps (WritesMode names ids d)
+  keeps_mode names ids Passive of f (own, free, h) = keeps_id own f h
+  keeps_mode names ids (Active x c) of f h = keeps_then (WritesTarget ids x) (WritesOffset names c) (keeps_target ids x) (keeps_offset names c of) f h
+
   -- The contents of a field that defines no identifier.
   pub keeps_export : (names : Names) (e : Export) → Keeps (WritesName e.name ▸ WritesExport names e.kind e.index)
   keeps_export names e = keeps_then (WritesName e.name) (WritesExport names e.kind e.index) (keeps_name e.name) (keeps_exported names e.kind e.index)
 
-  pub keeps_element : (names : Names) (e : Element) → HasConst p e.offset → Keeps (WritesTarget names.tables e.table ▸ WritesOffset names e.offset ▸ WritesFunctions names.functions e.functions)
+  pub keeps_element : (names : Names) (e : Element) → HasMode p e.mode → Keeps (WritesMode names names.tables e.mode ▸ WritesFunctions names.functions e.mode e.functions)
   keeps_element names e has =
-      keeps_then (WritesTarget names.tables e.table) (WritesOffset names e.offset ▸ WritesFunctions names.functions e.functions) (keeps_target names.tables e.table)
-      (keeps_then (WritesOffset names e.offset) (WritesFunctions names.functions e.functions) (keeps_offset names e.offset has)
-      (keeps_functions names.functions e.functions))
+      keeps_then (WritesMode names names.tables e.mode) (WritesFunctions names.functions e.mode e.functions) (keeps_mode names names.tables e.mode has)
+      (keeps_functions names.functions e.mode e.functions)
 
-  pub keeps_segment : (names : Names) (s : Segment) → HasConst p s.offset → Keeps (WritesTarget names.memories s.memory ▸ WritesOffset names s.offset ▸ WritesStrings s.bytes)
-  keeps_segment names s has =
-      keeps_then (WritesTarget names.memories s.memory) (WritesOffset names s.offset ▸ WritesStrings s.bytes) (keeps_target names.memories s.memory)
-      (keeps_then (WritesOffset names s.offset) (WritesStrings s.bytes) (keeps_offset names s.offset has) (keeps_strings s.bytes))
+  pub keeps_segment : (names : Names) (s : Segment) → HasMode p s.mode → Keeps (WritesMode names names.memories s.mode ▸ WritesStrings s.bytes)
+  keeps_segment names s has = keeps_then (WritesMode names names.memories s.mode) (WritesStrings s.bytes) (keeps_mode names names.memories s.mode has) (keeps_strings s.bytes)

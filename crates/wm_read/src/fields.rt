@@ -5,6 +5,7 @@ ghost use Rattle.wm_read.specs.exact.Fields as fields;
 ghost use Rattle.wm_bodies.specs.exact.Reading as reading;
 ghost use Rattle.wm_tokens.specs.exact.Scan.{lexed};
 ghost use Rattle.wm_bodies.specs.inner.Blocks.{names_of};
+ghost use Rattle.wm_bodies.specs.inner.Ids.{id_of};
 ghost use Rattle.wm_read.specs.inner.Fields.{field_of};
 ghost use Rattle.wm_read.specs.inner.Tails.{IsTail};
 ghost use Rattle.wm_bodies.specs.inner.Views.{Reads};
@@ -17,11 +18,11 @@ use crate::fields::signatures::signature;
 use crate::fields::strings::{bytes, name};
 use crate::fields::types::{global_type, limits, table_type};
 use std::alloc::Global;
-use wm_bodies::identifiers::{Names, Space};
+use wm_bodies::identifiers::{Names, Space, is_new};
 use wm_bodies::literals::{is, is_id};
 use wm_bodies::op_immediates::{begins_index, begins_open, close, id, index, known, open};
-use wm_syntax::modules::{Element, Export, Function, GlobalDef, Import, Segment};
-use wm_syntax::profile::Profile;
+use wm_syntax::modules::{Element, Export, Function, GlobalDef, Import, Segment, SegmentMode};
+use wm_syntax::profile::{Feature, Profile};
 use wm_syntax::types::{FuncType, Limits};
 use wm_tokens::faults::TextFault;
 use wm_tokens::lexeme::{Lexeme, next_token};
@@ -145,7 +146,49 @@ fn after_func(text: &[u8]) -> &[u8]
     }
 }
 
-/// Reads an element segment: a table's index, an offset and functions. Core spec 6.6.11.
+/// Whether the first token is the keyword `func`.
+fn begins_func(text: &[u8]) -> bool
+    ensures { result ≡ fields.begins_func (lexed text.now) }
+{
+    matches!(next_token(text), Some((Lexeme::Atom(atom), _)) if is(atom, b"func"))
+}
+
+/// Whether the first token is a string or a closing parenthesis.
+fn begins_strings(text: &[u8]) -> bool
+    ensures { result ≡ fields.begins_strings (lexed text.now) }
+{
+    matches!(
+        next_token(text),
+        Some((Lexeme::String(_) | Lexeme::Close, _))
+    )
+}
+
+/// Whether a segment is passive (WebAssembly 2.0, 6.6.11 and 6.6.12). `own` is its identifier, which no item of the
+/// space may have. `listed`: its list of functions or strings comes next.
+fn is_passive(profile: Profile, space: &Space, own: Option<&[u8]>, listed: bool) -> bool
+    ensures { result ≡ fields.is_passive profile space.now (id_of own.entry) listed }
+{
+    profile.has(Feature::BulkMemory) && listed && is_new(space, own)
+}
+
+/// Reads the mode of an active segment: the index of a table or memory of this space, and an offset. Core spec 6.6.11
+/// and 6.6.12.
+fn active<'a>(
+    alloc: Global,
+    profile: Profile,
+    names: &Names,
+    space: &Space,
+    text: &'a [u8],
+) -> Result<(SegmentMode, &'a [u8]), TextFault>
+    ensures { Reads (λ x. (x.0, lexed x.1.now)) result
+        (fields.active_at profile (names_of names.now) space.now (lexed text.now)) }
+{
+    let (index, rest) = target(space, text)?;
+    let (offset, rest) = offset(alloc, profile, names, rest)?;
+    Ok((SegmentMode::Active { index, offset }, rest))
+}
+
+/// Reads an element segment: its mode and functions. Core spec 6.6.11.
 fn element<'a>(
     alloc: Global,
     profile: Profile,
@@ -155,18 +198,17 @@ fn element<'a>(
     ensures { Reads (λ x. (field_of x.0, lexed x.1.now)) result
         (fields.element_at profile (names_of names.now) (lexed text.now)) }
 {
-    let (table, rest) = target(&names.tables, text)?;
-    let (offset, rest) = offset(alloc, profile, names, rest)?;
-    let (functions, rest) = indices(alloc, &names.functions, after_func(rest))?;
-    let element = Element {
-        table,
-        offset,
-        functions,
+    let (own, rest) = id(text);
+    let (mode, rest) = if is_passive(profile, &names.tables, own, begins_func(rest)) {
+        (SegmentMode::Passive, rest)
+    } else {
+        active(alloc, profile, names, &names.tables, text)?
     };
-    Ok((Field::Element(element), rest))
+    let (functions, rest) = indices(alloc, &names.functions, after_func(rest))?;
+    Ok((Field::Element(Element { mode, functions }), rest))
 }
 
-/// Reads a data segment: a memory's index, an offset and strings. Core spec 6.6.12.
+/// Reads a data segment: its mode and strings. Core spec 6.6.12.
 fn segment<'a>(
     alloc: Global,
     profile: Profile,
@@ -176,15 +218,14 @@ fn segment<'a>(
     ensures { Reads (λ x. (field_of x.0, lexed x.1.now)) result
         (fields.segment_at profile (names_of names.now) (lexed text.now)) }
 {
-    let (memory, rest) = target(&names.memories, text)?;
-    let (offset, rest) = offset(alloc, profile, names, rest)?;
-    let (bytes, rest) = bytes(alloc, rest)?;
-    let segment = Segment {
-        memory,
-        offset,
-        bytes,
+    let (own, rest) = id(text);
+    let (mode, rest) = if is_passive(profile, &names.memories, own, begins_strings(rest)) {
+        (SegmentMode::Passive, rest)
+    } else {
+        active(alloc, profile, names, &names.memories, text)?
     };
-    Ok((Field::Segment(segment), rest))
+    let (bytes, rest) = bytes(alloc, rest)?;
+    Ok((Field::Segment(Segment { mode, bytes }), rest))
 }
 
 /// Reads the contents of a field: all between its keyword and its closing parenthesis.

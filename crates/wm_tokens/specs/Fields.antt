@@ -1,5 +1,7 @@
 -- The text of a module: which tokens write it. Core spec 6.6.
 use Rattle.std.specs.Prelude.{◌≡◌, ℕ, ◌<◌, ◌≤◌, ◌^◌, List, [], ◌∷◌, ◌++◌, Bool, true, false, Option, Some}
+use Rattle.wm_syntax.specs.declared.modules.SegmentMode.TheVariants.{Passive, Active}
+use Rattle.wm_syntax.specs.declared.modules.SegmentMode.{SegmentMode}
 use Rattle.std.specs.Prelude.{None, IsUtf8, AllPairs, codes, length, map, filter_map, flat_map, slice_get}
 use Rattle.std.specs.Prelude.{◌≢◌, if◌then◌else◌}
 use Rattle.wm_syntax.specs.Spelling.{Form, Each, ◌▸◌, ◌∣◌}
@@ -103,16 +105,27 @@ WritesOffset names c = Paren (codes "offset") (WritesConst names c) ∣ WritesFo
 abbrev pub IsNoneOf : Ids → Id → Type 0
 IsNoneOf ids id = (name : List ℕ) (x : ℕ) → id ≡ Some name → slice_get ids x ≢ Some (Some name)
 
+-- An optional identifier that no item of the space has.
+abbrev pub WritesOwn : Ids → Form Token
+WritesOwn ids k = (own : Id) × IsNoneOf ids own × WritesId own k
+
 -- The index of a segment's table or memory, given the identifiers of that space. It is 0 if no index is written.
 -- Core spec 6.6.11 and 6.6.12. An identifier that no item of the space has may then be written. It is the
 -- segment's own, as later versions of the standard allow, and means nothing here.
 abbrev pub WritesTarget : Ids → ℕ → Form Token
-WritesTarget ids x = Resolves ids x ∣ (λ k. (x ≡ 0) × (own : Id) × IsNoneOf ids own × WritesId own k)
+WritesTarget ids x = Resolves ids x ∣ (λ k. (x ≡ 0) × WritesOwn ids k)
 
--- The functions of an element segment. The keyword `func` may come before them, as later versions of the
--- standard allow.
-abbrev pub WritesFunctions : Ids → List ℕ → Form Token
-WritesFunctions ids xs = (Nothing ∣ Keyword (codes "func")) ▸ Each (Resolves ids) xs
+-- The mode of a segment, given the identifiers of the tables or memories. A passive one has no index and no offset
+-- (WebAssembly 2.0, 6.6.11 and 6.6.12). It may have an identifier of its own, which no item of the space has.
+abbrev pub WritesMode : Names → Ids → SegmentMode → Form Token
+WritesMode names ids Passive = WritesOwn ids
+WritesMode names ids (Active x offset) = WritesTarget ids x ▸ WritesOffset names offset
+
+-- The functions of an element segment of this mode. The keyword `func` comes before those of a passive one
+-- (WebAssembly 2.0, 6.6.11). It may come before those of an active one, as later versions of the standard allow.
+abbrev pub WritesFunctions : Ids → SegmentMode → List ℕ → Form Token
+WritesFunctions ids Passive xs = Keyword (codes "func") ▸ Each (Resolves ids) xs
+WritesFunctions ids (Active x offset) xs = (Nothing ∣ Keyword (codes "func")) ▸ Each (Resolves ids) xs
 
 abbrev pub WritesField : Names → Field → Form Token
 WritesField names (type_field id f) = Paren (codes "type") (WritesId id ▸ WritesSignature f)
@@ -128,11 +141,9 @@ WritesField names (export_field e) =
 WritesField names (start_field x) = Paren (codes "start") (Resolves names.functions x)
 WritesField names (element_field e) =
     Paren (codes "elem")
-    (WritesTarget names.tables e.table ▸ WritesOffset names e.offset
-    ▸ WritesFunctions names.functions e.functions)
+    (WritesMode names names.tables e.mode ▸ WritesFunctions names.functions e.mode e.functions)
 WritesField names (segment_field s) =
-    Paren (codes "data") (WritesTarget names.memories s.memory ▸ WritesOffset names s.offset
-    ▸ WritesStrings s.bytes)
+    Paren (codes "data") (WritesMode names names.memories s.mode ▸ WritesStrings s.bytes)
 
 -- The value of a field, if the field is of this kind.
 abbrev pub type_of : Field → Option (Id × Signature)
@@ -234,7 +245,8 @@ pub record HasDistinct (names : Names) : Type 0 where
   pub memories : AreDistinct names.memories
   pub globals : AreDistinct names.globals
 
--- The tokens write a module of the profile: each value type, constant and instruction in it is of the profile.
+-- The tokens write a module of the profile: each value type, constant and instruction in it is of the profile, and each
+-- mode of a segment.
 -- Core spec 6.6.13.
 pub record Writes (p : Profile) (k : List Token) (m : Module) : Type 0 where
   pub id : Id

@@ -11,7 +11,8 @@ use Rattle.wm_syntax.specs.declared.instructions.Simple.{Simple}
 use Rattle.wm_syntax.specs.declared.instructions.Simple.TheVariants.{Br, BrIf, Call, CallIndirect, LocalGet}
 use Rattle.wm_syntax.specs.declared.instructions.Simple.TheVariants.{LocalSet, LocalTee, GlobalGet, GlobalSet}
 use Rattle.wm_syntax.specs.declared.instructions.Simple.TheVariants.{I32Const, I64Const, F32Const, F64Const}
-use Rattle.wm_syntax.specs.declared.instructions.Simple.TheVariants.{Load, Store}
+use Rattle.wm_syntax.specs.declared.instructions.Simple.TheVariants.{Load, Store, MemoryInit, DataDrop}
+use Rattle.wm_syntax.specs.declared.instructions.Simple.TheVariants.{TableInit, ElemDrop}
 use Rattle.wm_syntax.specs.Types.{Signature, type_text}
 use Rattle.wm_syntax.specs.Opcodes.{opcode, load, store}
 use Rattle.wm_syntax.specs.Instructions.{Instruction, Instructions, none, snoc, simple, table, block, loop}
@@ -113,6 +114,8 @@ WritesFloat w = One (IsFloat w)
 abbrev pub UnnamedTypeUse : Names → ℕ → Form Token
 UnnamedTypeUse names x k = (ts : List ValType) × TypeUse names x (map (λ t. (None, t)) ts) k
 
+-- The operands of an instruction. A segment is written as its number (WebAssembly 2.0, 6.5.6 and 6.5.7). The table 0 of
+-- `table.init` and `table.copy` is not written, which 6.5.6 allows.
 abbrev pub WritesOperand : Scope → Ids → Simple → Form Token
 WritesOperand s labels (Br l) = ResolvesLabel labels l
 WritesOperand s labels (BrIf l) = ResolvesLabel labels l
@@ -123,6 +126,10 @@ WritesOperand s labels (LocalSet x) = Resolves s.locals x
 WritesOperand s labels (LocalTee x) = Resolves s.locals x
 WritesOperand s labels (GlobalGet x) = Resolves s.names.globals x
 WritesOperand s labels (GlobalSet x) = Resolves s.names.globals x
+WritesOperand s labels (MemoryInit x) = UnsignedNumber x
+WritesOperand s labels (DataDrop x) = UnsignedNumber x
+WritesOperand s labels (TableInit x) = UnsignedNumber x
+WritesOperand s labels (ElemDrop x) = UnsignedNumber x
 WritesOperand s labels (I32Const n) = WritesInteger 32 n
 WritesOperand s labels (I64Const n) = WritesInteger 64 n
 WritesOperand s labels (F32Const n) = WritesFloat float.F32 n

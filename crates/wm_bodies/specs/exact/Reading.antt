@@ -12,6 +12,9 @@ use Rattle.wm_syntax.specs.declared.instructions.Simple.TheVariants as s
 use Rattle.wm_syntax.specs.declared.instructions.Op.{Op}
 use Rattle.wm_syntax.specs.declared.instructions.Op.TheVariants as op
 use Rattle.wm_syntax.specs.declared.instructions.op_class.Immediates.{Immediates}
+use Rattle.wm_syntax.specs.declared.instructions.op_class.LoadOrStore.TheVariants as accesses
+use Rattle.wm_syntax.specs.declared.instructions.op_class.MemoryOp.TheVariants as memory
+use Rattle.wm_syntax.specs.declared.instructions.op_class.Indexed.TheVariants as indexed
 use Rattle.wm_syntax.specs.declared.instructions.op_class.Immediates.TheVariants as k
 use Rattle.wm_syntax.specs.declared.instructions.op_class.OpClass.{OpClass}
 use Rattle.wm_syntax.specs.declared.instructions.op_class.OpClass.TheVariants as class
@@ -21,8 +24,7 @@ use Rattle.wm_syntax.specs.Opcodes.{load, store}
 use Rattle.wm_syntax.specs.Profiles.{has, type_feature}
 use Rattle.wm_tokens.specs.Tokens.{Token, open_paren, close_paren, atom, is_lower}
 use Rattle.wm_tokens.specs.exact.Scan.{magnitude_of, is_nil}
-use Rattle.wm_bodies.specs.declared.blocks.BlockKeyword.{BlockKeyword}
-use Rattle.wm_bodies.specs.declared.blocks.BlockKeyword.TheVariants.{Block, Loop, If}
+use Rattle.wm_syntax.specs.declared.instructions.op_class.BlockOp.{BlockOp}
 use Rattle.wm_tokens.specs.Identifiers.{Id, Ids}
 use Rattle.wm_syntax.specs.Types.{type_text}
 use Rattle.wm_tokens.specs.Written.{Scope}
@@ -226,35 +228,45 @@ closes_at (b ∷ bs) k = made (λ x. closes) (again_at b.id k)
 abbrev pub simple_at : {X : Type 0} → (X → Simple) → Reader X → Reader Piece
 simple_at f r k = made (λ x. plain (f x)) (r k)
 
-abbrev pub opens_at : Profile → BlockKeyword → Reader Piece
+abbrev pub opens_at : Profile → BlockOp → Reader Piece
 opens_at p o k = made (λ x. opens o x.0 x.1) (then_at id_at (block_type_at p) k)
+
+-- The reader of the operand of a float constant, a load or a store.
+abbrev pub float_or_access_at : Immediates → Reader Piece
+float_or_access_at k.F32Const = simple_at s.F32Const (atom_at (float_of float.F32))
+float_or_access_at k.F64Const = simple_at s.F64Const (atom_at (float_of float.F64))
+float_or_access_at (k.Access (accesses.Load o)) = simple_at (s.Load o) (access_at (load o).width)
+float_or_access_at (k.Access (accesses.Store o)) = simple_at (s.Store o) (access_at (store o).width)
+float_or_access_at _ = λ t. None
 
 -- The reader of a call_indirect's type use is a parameter: `TypeUses.antt` has it.
 module _ (use_at : Reader ℕ) where
   abbrev pub kind_at : Profile → Scope → Opened → Immediates → Reader Piece
-  kind_at p sc bs k.Block = opens_at p Block
-  kind_at p sc bs k.Loop = opens_at p Loop
-  kind_at p sc bs k.If = opens_at p If
-  kind_at p sc bs k.Br = simple_at s.Br (atom_at (index_of (labels bs)))
-  kind_at p sc bs k.BrIf = simple_at s.BrIf (atom_at (index_of (labels bs)))
-  kind_at p sc bs k.BrTable = table_at (labels bs)
-  kind_at p sc bs k.Call = simple_at s.Call (atom_at (index_of sc.names.functions))
+  kind_at p sc bs (k.Block o) = opens_at p o
+  kind_at p sc bs (k.Index indexed.Br) = simple_at s.Br (atom_at (index_of (labels bs)))
+  kind_at p sc bs (k.Index indexed.BrIf) = simple_at s.BrIf (atom_at (index_of (labels bs)))
+  kind_at p sc bs (k.Index indexed.BrTable) = table_at (labels bs)
+  kind_at p sc bs (k.Index indexed.Call) = simple_at s.Call (atom_at (index_of sc.names.functions))
   kind_at p sc bs k.CallIndirect = simple_at s.CallIndirect use_at
-  kind_at p sc bs k.LocalGet = simple_at s.LocalGet (atom_at (index_of sc.locals))
-  kind_at p sc bs k.LocalSet = simple_at s.LocalSet (atom_at (index_of sc.locals))
-  kind_at p sc bs k.LocalTee = simple_at s.LocalTee (atom_at (index_of sc.locals))
-  kind_at p sc bs k.GlobalGet = simple_at s.GlobalGet (atom_at (index_of sc.names.globals))
-  kind_at p sc bs k.GlobalSet = simple_at s.GlobalSet (atom_at (index_of sc.names.globals))
-  kind_at p sc bs k.MemorySize = λ k. Some (plain s.MemorySize, k)
-  kind_at p sc bs k.MemoryGrow = λ k. Some (plain s.MemoryGrow, k)
-  kind_at p sc bs k.MemoryCopy = λ k. Some (plain s.MemoryCopy, k)
-  kind_at p sc bs k.MemoryFill = λ k. Some (plain s.MemoryFill, k)
+  kind_at p sc bs (k.Index indexed.LocalGet) = simple_at s.LocalGet (atom_at (index_of sc.locals))
+  kind_at p sc bs (k.Index indexed.LocalSet) = simple_at s.LocalSet (atom_at (index_of sc.locals))
+  kind_at p sc bs (k.Index indexed.LocalTee) = simple_at s.LocalTee (atom_at (index_of sc.locals))
+  kind_at p sc bs (k.Index indexed.GlobalGet) = simple_at s.GlobalGet (atom_at (index_of sc.names.globals))
+  kind_at p sc bs (k.Index indexed.GlobalSet) = simple_at s.GlobalSet (atom_at (index_of sc.names.globals))
+  kind_at p sc bs (k.Index indexed.DataDrop) = simple_at s.DataDrop (atom_at unsigned_of)
+  kind_at p sc bs k.MemoryInit = simple_at s.MemoryInit (atom_at unsigned_of)
+  kind_at p sc bs (k.Index indexed.ElemDrop) = simple_at s.ElemDrop (atom_at unsigned_of)
+  kind_at p sc bs k.TableInit = simple_at s.TableInit (atom_at unsigned_of)
+  kind_at p sc bs k.TableCopy = λ k. Some (plain s.TableCopy, k)
+  kind_at p sc bs (k.Memory memory.MemorySize) = λ k. Some (plain s.MemorySize, k)
+  kind_at p sc bs (k.Memory memory.MemoryGrow) = λ k. Some (plain s.MemoryGrow, k)
+  kind_at p sc bs (k.Memory memory.MemoryCopy) = λ k. Some (plain s.MemoryCopy, k)
+  kind_at p sc bs (k.Memory memory.MemoryFill) = λ k. Some (plain s.MemoryFill, k)
   kind_at p sc bs k.I32Const = simple_at s.I32Const (atom_at (integer_of 32))
   kind_at p sc bs k.I64Const = simple_at s.I64Const (atom_at (integer_of 64))
-  kind_at p sc bs k.F32Const = simple_at s.F32Const (atom_at (float_of float.F32))
-  kind_at p sc bs k.F64Const = simple_at s.F64Const (atom_at (float_of float.F64))
-  kind_at p sc bs (k.Load o) = simple_at (s.Load o) (access_at (load o).width)
-  kind_at p sc bs (k.Store o) = simple_at (s.Store o) (access_at (store o).width)
+  kind_at p sc bs k.F32Const = float_or_access_at k.F32Const
+  kind_at p sc bs k.F64Const = float_or_access_at k.F64Const
+  kind_at p sc bs (k.Access a) = float_or_access_at (k.Access a)
 
   abbrev pub class_at : Profile → Scope → Opened → OpClass → Reader Piece
   class_at p sc bs (class.Plain (op.Simple i)) = λ k. Some (plain i, k)

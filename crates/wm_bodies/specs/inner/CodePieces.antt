@@ -3,6 +3,7 @@ use Rattle.std.specs.Prelude.{◌<◌, ◌^◌, length}
 use Rattle.wm_bodies.specs.declared.pieces.Piece.{Piece as Code}
 use Rattle.wm_bodies.specs.declared.pieces.Piece.TheVariants as p
 use Rattle.wm_syntax.specs.declared.instructions.op_class.Immediates.{Immediates}
+use Rattle.wm_syntax.specs.declared.instructions.op_class.Indexed.TheVariants as indexed
 use Rattle.wm_syntax.specs.declared.instructions.op_class.Immediates.TheVariants as k
 use Rattle.wm_bodies.specs.inner.Ids.{id_of}
 use Rattle.wm_bodies.specs.inner.Pieces.{Piece, plain, jump, opens, middle, closes}
@@ -16,14 +17,20 @@ piece_of p.Closes = closes
 
 -- `operand` reads what follows the keyword of an instruction with these immediates.
 abbrev pub HasOperand : Immediates → Type 0
-HasOperand k.Block = ⊥
-HasOperand k.Loop = ⊥
-HasOperand k.If = ⊥
-HasOperand k.BrTable = ⊥
+HasOperand (k.Block o) = ⊥
+HasOperand (k.Index indexed.BrTable) = ⊥
 HasOperand k.CallIndirect = ⊥
 HasOperand k.F32Const = ⊥
 HasOperand k.F64Const = ⊥
+HasOperand (k.Access a) = ⊥
 HasOperand _ = Unit {0}
+
+-- These are the immediates of a float constant, a load or a store, which `float_or_access` reads.
+abbrev pub IsFloatOrAccess : Immediates → Type 0
+IsFloatOrAccess k.F32Const = Unit {0}
+IsFloatOrAccess k.F64Const = Unit {0}
+IsFloatOrAccess (k.Access a) = Unit {0}
+IsFloatOrAccess _ = ⊥
 
 -- A br_table has fewer than 2^32 labels before its default.
 abbrev pub FitsPiece : Piece → Type 0

@@ -5,11 +5,12 @@ use Rattle.wm_syntax.specs.declared.types.ValType.{ValType}
 use Rattle.wm_syntax.specs.declared.instructions.Simple.{Simple}
 use Rattle.wm_syntax.specs.declared.instructions.Op.{Op}
 use Rattle.wm_syntax.specs.declared.instructions.Op.TheVariants as op
+use Rattle.wm_syntax.specs.exact.OpShapes.{block_op}
 use Rattle.wm_syntax.specs.declared.profile.Profile.{Profile}
 use Rattle.wm_syntax.specs.Profiles.{HasBlockType, HasSimple}
 use Rattle.wm_tokens.specs.Tokens.{Token}
-use Rattle.wm_bodies.specs.declared.blocks.BlockKeyword.{BlockKeyword}
-use Rattle.wm_bodies.specs.declared.blocks.BlockKeyword.TheVariants.{Block, Loop, If}
+use Rattle.wm_syntax.specs.declared.instructions.op_class.BlockOp.{BlockOp}
+use Rattle.wm_syntax.specs.declared.instructions.op_class.BlockOp.TheVariants.{Block, Loop, If}
 use Rattle.wm_tokens.specs.Identifiers.{Id, Ids}
 use Rattle.wm_tokens.specs.Written.{Scope, WritesSimple, WritesTable, Opens, Closes}
 
@@ -28,24 +29,19 @@ labels bs = map (λ b. b.id) bs
 pub data Piece : Type 0 where
   plain : Simple → Piece
   jump : List ℕ → ℕ → Piece
-  opens : BlockKeyword → Id → Option ValType → Piece
+  opens : BlockOp → Id → Option ValType → Piece
   middle : Piece
   closes : Piece
 
-abbrev pub is_if : BlockKeyword → Bool
+abbrev pub is_if : BlockOp → Bool
 is_if If = true
 is_if Block = false
 is_if Loop = false
 
-abbrev pub opening_word : BlockKeyword → List ℕ
+abbrev pub opening_word : BlockOp → List ℕ
 opening_word Block = codes "block"
 opening_word Loop = codes "loop"
 opening_word If = codes "if"
-
-abbrev pub opening_op : BlockKeyword → Option ValType → Op
-opening_op Block t = op.Block t
-opening_op Loop t = op.Loop t
-opening_op If t = op.If t
 
 -- The open blocks after a piece, innermost first.
 abbrev pub after : Opened → Piece → Opened
@@ -60,7 +56,7 @@ after (b ∷ bs) closes = bs
 abbrev pub piece_ops : Piece → List Op
 piece_ops (plain i) = op.Simple i ∷ []
 piece_ops (jump ls l) = op.BrTable (length ls) ∷ map op.Label ls ++ op.Label l ∷ []
-piece_ops (opens o id t) = opening_op o t ∷ []
+piece_ops (opens o id t) = block_op o t ∷ []
 piece_ops middle = op.Else ∷ []
 piece_ops closes = op.End ∷ []
 

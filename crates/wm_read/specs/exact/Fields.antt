@@ -1,5 +1,9 @@
 -- Exact answers of the readers of fields (Core spec 6.6), given what the heads of all fields define.
-use Rattle.std.specs.Prelude.{ℕ, suc, ◌&&◌, List, [], ◌∷◌, ◌++◌, Bool, true, Option, Some, None}
+use Rattle.std.specs.Prelude.{ℕ, suc, ◌&&◌, List, [], ◌∷◌, ◌++◌, Bool, true, false, Option, Some, None}
+use Rattle.wm_syntax.specs.Profiles.{has}
+use Rattle.wm_syntax.specs.declared.profile.Feature.TheVariants.{BulkMemory}
+use Rattle.wm_syntax.specs.declared.modules.SegmentMode.TheVariants.{Passive, Active}
+use Rattle.wm_syntax.specs.declared.modules.SegmentMode.{SegmentMode}
 use Rattle.std.specs.Prelude.{if◌then◌else◌, codes, flat_map, length, nat_lt}
 use Rattle.std.specs.Str.{is_utf8}
 use Rattle.wm_syntax.specs.declared.types.Const.{Const}
@@ -11,13 +15,14 @@ use Rattle.wm_syntax.specs.declared.modules.ImportDesc.TheVariants as desc
 use Rattle.wm_syntax.specs.declared.modules.ExportKind.{ExportKind}
 use Rattle.wm_syntax.specs.declared.modules.ExportKind.TheVariants as kind
 use Rattle.wm_syntax.specs.declared.instructions.op_class.Immediates.{Immediates}
+use Rattle.wm_syntax.specs.declared.instructions.op_class.Indexed.TheVariants as indexed
 use Rattle.wm_syntax.specs.declared.instructions.op_class.Immediates.TheVariants as k
 use Rattle.wm_syntax.specs.declared.instructions.op_class.OpClass.{OpClass}
 use Rattle.wm_syntax.specs.declared.instructions.op_class.OpClass.TheVariants as class
 use Rattle.wm_syntax.specs.declared.profile.Profile.{Profile}
 use Rattle.wm_syntax.specs.exact.NameTable.{class_named}
 use Rattle.wm_syntax.specs.Modules.{Function}
-use Rattle.wm_tokens.specs.Tokens.{Token, string, atom}
+use Rattle.wm_tokens.specs.Tokens.{Token, close_paren, string, atom}
 use Rattle.wm_tokens.specs.Identifiers.{Id, Ids}
 use Rattle.wm_tokens.specs.Written.{Named, Names, types_of, ids_of}
 use Rattle.wm_tokens.specs.Fields.{Field, type_field, import_field, function_field, table_field, memory_field}
@@ -90,7 +95,7 @@ const_kind names k.I32Const t = made const.I32 (atom_at (integer_of 32) t)
 const_kind names k.I64Const t = made const.I64 (atom_at (integer_of 64) t)
 const_kind names k.F32Const t = made const.F32 (atom_at (float_of float.F32) t)
 const_kind names k.F64Const t = made const.F64 (atom_at (float_of float.F64) t)
-const_kind names k.GlobalGet t = made const.Global (atom_at (index_of names.globals) t)
+const_kind names (k.Index indexed.GlobalGet) t = made const.Global (atom_at (index_of names.globals) t)
 const_kind names _ t = None
 
 abbrev pub const_class : Names → OpClass → Reader Const
@@ -205,15 +210,37 @@ export_at names t =
       index = x.1.1;
     })) (then_at name_at (item_at names) t)
 
+abbrev pub begins_func : List Token → Bool
+begins_func (atom a ∷ k) = same_bytes a (codes "func")
+begins_func _ = false
+
+abbrev pub begins_strings : List Token → Bool
+begins_strings (string b ∷ k) = true
+begins_strings (close_paren ∷ k) = true
+begins_strings _ = false
+
+abbrev pub active_at : Profile → Names → Ids → Reader SegmentMode
+active_at p names ids t = made (λ x. Active x.0 x.1) (then_at (target_at ids) (offset_at p names) t)
+
+-- Whether a segment is passive: the profile has passive segments, and the segment's list comes first, or after an
+-- identifier that no item of the space has.
+abbrev pub is_passive : Profile → Ids → Id → Bool → Bool
+is_passive p ids own listed = (has p BulkMemory && listed) && is_new ids own
+
+-- The mode of a segment. `listed` says whether tokens begin its list.
+abbrev pub mode_at : Profile → Names → Ids → (List Token → Bool) → Reader SegmentMode
+mode_at p names ids listed t =
+    id_at t >>= λ i. if is_passive p ids i.0 (listed i.1) then Some (Passive, i.1) else active_at p names ids t
+
 abbrev pub element_at : Profile → Names → Reader Field
 element_at p names t =
-    made (λ x. element_field (record { table = x.0; offset = x.1.0; functions = x.1.1 }))
-    (then_at (target_at names.tables) (then_at (offset_at p names) (functions_at names.functions)) t)
+    made (λ x. element_field (record { mode = x.0; functions = x.1 }))
+    (then_at (mode_at p names names.tables begins_func) (functions_at names.functions) t)
 
 abbrev pub segment_at : Profile → Names → Reader Field
 segment_at p names t =
-    made (λ x. segment_field (record { memory = x.0; offset = x.1.0; bytes = x.1.1 }))
-    (then_at (target_at names.memories) (then_at (offset_at p names) bytes_at) t)
+    made (λ x. segment_field (record { mode = x.0; bytes = x.1 }))
+    (then_at (mode_at p names names.memories begins_strings) bytes_at t)
 
 -- The contents of a field: all between its keyword and its closing parenthesis.
 abbrev pub inside_at : Profile → Names → FieldKind → Reader Field

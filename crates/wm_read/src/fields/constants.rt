@@ -16,7 +16,7 @@ use wm_bodies::op_immediates::{
     float_32, float_64, index, integer_32, integer_64, no_instruction, open, refuse, with,
 };
 use wm_syntax::instructions::Op;
-use wm_syntax::instructions::op_class::{Immediates, OpClass};
+use wm_syntax::instructions::op_class::{Immediates, Indexed, OpClass};
 use wm_syntax::instructions::op_names::op_named;
 use wm_syntax::profile::Profile;
 use wm_syntax::types::Const;
@@ -97,7 +97,7 @@ fn instruction<'a>(
         OpClass::With(Immediates::I64Const) => Ok(with(Const::I64, integer_64(text)?)),
         OpClass::With(Immediates::F32Const) => Ok(with(Const::F32, float_32(alloc, text)?)),
         OpClass::With(Immediates::F64Const) => Ok(with(Const::F64, float_64(alloc, text)?)),
-        OpClass::With(Immediates::GlobalGet) => {
+        OpClass::With(Immediates::Index(Indexed::GlobalGet)) => {
             Ok(with(Const::Global, index(&names.globals, text)?))
         }
         _ => Err(no_constant(profile, front, atom, here)),

@@ -8,6 +8,7 @@ ghost use Rattle.wm_bodies.specs.inner.Views.{IsRefusal, Reads};
 
 use wm_bodies::literals::{is, is_word};
 use wm_bodies::op_immediates::refuse;
+use wm_bodies::{named, value_in};
 use wm_syntax::modules::ExportKind;
 use wm_tokens::faults::{TextFault, TextWhy};
 use wm_tokens::lexeme::{Lexeme, next_token};
@@ -31,46 +32,32 @@ pub enum FieldKind {
 fn field_with(atom: &[u8]) -> Option<FieldKind>
     ensures { result ≡ field_named atom.now }
 {
-    if is(atom, b"type") {
-        Some(FieldKind::Type)
-    } else if is(atom, b"import") {
-        Some(FieldKind::Import)
-    } else if is(atom, b"func") {
-        Some(FieldKind::Func)
-    } else if is(atom, b"table") {
-        Some(FieldKind::Table)
-    } else if is(atom, b"memory") {
-        Some(FieldKind::Memory)
-    } else if is(atom, b"global") {
-        Some(FieldKind::Global)
-    } else if is(atom, b"export") {
-        Some(FieldKind::Export)
-    } else if is(atom, b"start") {
-        Some(FieldKind::Start)
-    } else if is(atom, b"elem") {
-        Some(FieldKind::Elem)
-    } else if is(atom, b"data") {
-        Some(FieldKind::Data)
-    } else {
-        None
-    }
+    named!(
+        atom,
+        b"type" => FieldKind::Type,
+        b"import" => FieldKind::Import,
+        b"func" => FieldKind::Func,
+        b"table" => FieldKind::Table,
+        b"memory" => FieldKind::Memory,
+        b"global" => FieldKind::Global,
+        b"export" => FieldKind::Export,
+        b"start" => FieldKind::Start,
+        b"elem" => FieldKind::Elem,
+        b"data" => FieldKind::Data,
+    )
 }
 
 /// Returns the kind of import or export that has this keyword, if any.
 fn item_with(atom: &[u8]) -> Option<ExportKind>
     ensures { result ≡ item_named atom.now }
 {
-    if is(atom, b"func") {
-        Some(ExportKind::Func)
-    } else if is(atom, b"table") {
-        Some(ExportKind::Table)
-    } else if is(atom, b"memory") {
-        Some(ExportKind::Memory)
-    } else if is(atom, b"global") {
-        Some(ExportKind::Global)
-    } else {
-        None
-    }
+    named!(
+        atom,
+        b"func" => ExportKind::Func,
+        b"table" => ExportKind::Table,
+        b"memory" => ExportKind::Memory,
+        b"global" => ExportKind::Global,
+    )
 }
 
 /// Returns the refusal of an atom that is no keyword of a field. The atom is the first token of `text`.
@@ -89,24 +76,12 @@ fn no_form(atom: &[u8], text: &[u8]) -> TextFault
 pub fn field_kind(text: &[u8]) -> Result<(FieldKind, &[u8]), TextFault>
     ensures { Reads (λ x. (x.0, lexed x.1.now)) result (reading.atom_at field_named (lexed text.now)) }
 {
-    match next_token(text) {
-        Some((Lexeme::Atom(atom), rest)) => match field_with(atom) {
-            Some(kind) => Ok((kind, rest)),
-            None => Err(no_form(atom, text)),
-        },
-        _ => Err(refuse(TextWhy::Expected, text)),
-    }
+    value_in!(next_token(text), text, atom => field_with(atom), no_form(atom, text))
 }
 
 /// Reads the keyword of a descriptor: `func`, `table`, `memory` or `global`. Fails with `Expected` for anything else.
 pub fn item_kind(text: &[u8]) -> Result<(ExportKind, &[u8]), TextFault>
     ensures { Reads (λ x. (x.0, lexed x.1.now)) result (reading.atom_at item_named (lexed text.now)) }
 {
-    match next_token(text) {
-        Some((Lexeme::Atom(atom), rest)) => match item_with(atom) {
-            Some(kind) => Ok((kind, rest)),
-            None => Err(refuse(TextWhy::Expected, text)),
-        },
-        _ => Err(refuse(TextWhy::Expected, text)),
-    }
+    value_in!(next_token(text), text, atom => item_with(atom), refuse(TextWhy::Expected, text))
 }

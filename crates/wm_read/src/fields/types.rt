@@ -7,23 +7,11 @@ ghost use Rattle.wm_tokens.specs.exact.Scan.{lexed};
 ghost use Rattle.wm_bodies.specs.inner.Views.{Reads};
 
 use wm_bodies::literals::{is_id, is_word};
-use wm_bodies::op_immediates::{number, paren_type, refuse, val_type, word};
+use wm_bodies::op_immediates::{natural, number, paren_type, refuse, val_type, word};
 use wm_syntax::profile::Profile;
 use wm_syntax::types::{GlobalType, Limits};
 use wm_tokens::faults::{TextFault, TextWhy};
 use wm_tokens::lexeme::{Lexeme, next_token};
-
-/// Reads a number below 2^32.
-#[tactic(auto, using(crate::proofs::FieldTypes::id_no_number))]
-fn minimum(text: &[u8]) -> Result<(u32, &[u8]), TextFault>
-    ensures { Reads (λ x. (x.0, lexed x.1.now)) result
-        (reading.atom_at reading.unsigned_of (lexed text.now)) }
-{
-    match next_token(text) {
-        Some((Lexeme::Atom(atom), rest)) if !is_id(atom) => Ok((number(atom, text)?, rest)),
-        _ => Err(refuse(TextWhy::Expected, text)),
-    }
-}
 
 /// Reads an optional number below 2^32.
 fn maximum(text: &[u8]) -> Result<(Option<u32>, &[u8]), TextFault>
@@ -41,7 +29,7 @@ fn maximum(text: &[u8]) -> Result<(Option<u32>, &[u8]), TextFault>
 pub fn limits(text: &[u8]) -> Result<(Limits, &[u8]), TextFault>
     ensures { Reads (λ x. (x.0, lexed x.1.now)) result (fields.limits_at (lexed text.now)) }
 {
-    let (min, rest) = minimum(text)?;
+    let (min, rest) = natural(text)?;
     let (max, rest) = maximum(rest)?;
     Ok((Limits { min, max }, rest))
 }
