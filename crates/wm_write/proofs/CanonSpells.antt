@@ -1,5 +1,11 @@
 -- The canonical binary spells its module.
-use Rattle.std.proofs.Common.{ℕ, suc, ◌+◌, ◌≡◌, ◌<◌, ◌≤◌, ◌^◌, List, [], ◌∷◌, ◌++◌, Option, Some, None, Bool, true, false, length, refl, sym, ◌∙◌, ap, subst, append-nil, length-append, arith, map, flat_map, replicate, inl, inr, cond, nat_lt, ◌%◌, ◌/◌}
+use Rattle.std.proofs.Common.{ℕ, suc, ◌+◌, ◌≡◌, ◌<◌, ◌≤◌, ◌^◌, List, [], ◌∷◌, ◌++◌, Option, Some, None, Bool, true, false, length, refl, sym, ◌∙◌, ap, subst, append-nil, length-append, arith, map, flat_map, replicate, inl, inr, cond, nat_lt, ◌%◌, ◌/◌, IsTrue}
+use Rattle.std.specs.Prelude.{◌==◌}
+use Rattle.std.proofs.lemmas.Bool.{eqb-true}
+use Rattle.wm_write.proofs.OpcodeBytes.{two_bytes, zero_bytes}
+use Rattle.wm_syntax.specs.declared.profile.Feature.TheVariants.{BulkMemory}
+use Rattle.wm_syntax.specs.declared.modules.SegmentMode.TheVariants.{Passive, Active}
+use Rattle.wm_syntax.specs.declared.modules.SegmentMode.{SegmentMode}
 use Rattle.wm_syntax.proofs.NumberLoops.{short}
 use Rattle.std.specs.Prelude.{IsUtf8, IfSome, ◌-◌}
 use Rattle.std.specs.List.{AllByRecursion}
@@ -13,20 +19,21 @@ use Rattle.wm_syntax.specs.declared.types.Const.{Const}
 use Rattle.wm_syntax.specs.declared.modules.ImportDesc.{ImportDesc}
 use Rattle.wm_syntax.specs.declared.modules.ImportDesc.TheVariants.{Func, Table, Memory, Global}
 use Rattle.wm_syntax.specs.declared.instructions.Simple.{Simple}
-use Rattle.wm_syntax.specs.declared.instructions.Simple.TheVariants.{Unreachable, Nop, Return, Drop, Select, Br, BrIf, Call, CallIndirect, LocalGet, LocalSet, LocalTee, GlobalGet, GlobalSet, MemorySize, MemoryGrow, MemoryCopy, MemoryFill, I32Const, I64Const, F32Const, F64Const, Load, Store, Numeric}
+use Rattle.wm_syntax.specs.declared.instructions.Simple.TheVariants.{Unreachable, Nop, Return, Drop, Select, Br, BrIf, Call, CallIndirect, LocalGet, LocalSet, LocalTee, GlobalGet, GlobalSet, MemorySize, MemoryGrow, MemoryCopy, MemoryFill, MemoryInit, DataDrop, I32Const, I64Const, F32Const, F64Const, Load, Store, Numeric, TableInit, ElemDrop, TableCopy}
 use Rattle.wm_syntax.specs.declared.instructions.Op.{Op}
 use Rattle.wm_syntax.specs.declared.instructions.Op.TheVariants as op
 use Rattle.wm_syntax.specs.declared.profile.Profile.{Profile}
-use Rattle.wm_syntax.specs.Profiles.{HasType}
+use Rattle.wm_syntax.specs.declared.profile.Feature.TheVariants.{BulkMemory}
+use Rattle.wm_syntax.specs.Profiles.{HasType, has}
 use Rattle.wm_syntax.specs.Types.{Signature, block_byte, type_byte, SpellsU32, SpellsList, SpellsName, SpellsValType, SpellsSignature, SpellsBounds, SpellsLimits, SpellsTableType, SpellsVar, SpellsGlobalType, SpellsBlockType}
 use Rattle.wm_syntax.specs.Instructions.{Instruction, Instructions, none, snoc, simple, table, block, loop, choice, instruction_ops, ops_of, else_ops}
 use Rattle.wm_syntax.specs.Encodings.{SpellsOpcode, SpellsOpcodeBy, SpellsImmediates, SpellsSimple, SpellsOp, SpellsInstructions}
-use Rattle.wm_syntax.specs.Modules.{IsU32, IsSimple, IsInstruction, AreInstructions, AreLimits, IsDesc, IsConst, IsModule, Module, Import, Function, GlobalDef, Export, Element, Segment, constant}
+use Rattle.wm_syntax.specs.Modules.{IsU32, IsSimple, IsInstruction, AreInstructions, AreLimits, IsDesc, IsConst, IsMode, IsModule, Module, Import, Function, GlobalDef, Export, Element, Segment, constant, index_of, bodies_name_segment}
 use Rattle.wm_syntax.proofs.Spellings.{unsigned_spells, signed_spells}
 use Rattle.wm_syntax.proofs.FloatBytes.{float_spells}
 use Rattle.wm_syntax.proofs.Bodies.{has_ops}
 use Rattle.wm_syntax.proofs.Flat.{spelled_by_ops}
-use Rattle.wm_machine.specs.Sections.{ListSection, StartSection, Customs, SpellsConst, SpellsDesc, SpellsImport, SpellsGlobal, SpellsExport, SpellsElement, SpellsRun, SpellsLocals, SpellsCode, SpellsSegment, SpellsModule, kind_byte}
+use Rattle.wm_machine.specs.Sections.{DataCountSection, ListSection, StartSection, Customs, SpellsConst, SpellsDesc, SpellsImport, SpellsGlobal, SpellsExport, SpellsElement, SpellsElements, SpellsRun, SpellsLocals, SpellsCode, SpellsMemory, SpellsOffset, SpellsSegment, SpellsModule, kind_byte}
 use Rattle.wm_syntax.specs.Modules.{locals_of}
 use Rattle.wm_machine.proofs.NameBytes.{utf8_bytes}
 use Rattle.wm_syntax.specs.Runs.{same, type_before, runs_of}
@@ -34,8 +41,8 @@ use Rattle.wm_syntax.proofs.SameTypes.{means}
 use Rattle.wm_write.specs.Canon.{opcode_bytes, immediates, u32_bytes, op_bytes, ops_bytes}
 use Rattle.wm_syntax.specs.Opcodes.{opcode}
 use Rattle.wm_syntax.proofs.OpTable.{small_code}
-use Rattle.wm_write.proofs.Ranges.{HaveLocals, both_in}
-use Rattle.wm_write.specs.Canon.{listed, sized, value_type_bytes, signature_bytes, bounds_bytes, limits_bytes, table_bytes, var_byte, global_type_bytes, desc_bytes, import_bytes, constant_bytes, global_bytes, export_bytes, element_bytes, run_bytes, code_contents, code_bytes, segment_bytes, list_section, start_section, canon, Fits}
+use Rattle.wm_write.proofs.Ranges.{CanMode, HaveLocals, HaveModes, both_in, MayCount}
+use Rattle.wm_write.specs.Canon.{listed, sized, value_type_bytes, signature_bytes, bounds_bytes, limits_bytes, table_bytes, var_byte, global_type_bytes, desc_bytes, import_bytes, constant_bytes, global_bytes, export_bytes, element_bytes, run_bytes, code_contents, code_bytes, segment_bytes, list_section, start_section, canon_with, FitsWith, start_bytes, element_kind_bytes, offset_bytes, data_count_section, canon, Fits}
 
 -- numbers
 number : (n : ℕ) → IsU32 n → SpellsU32 n (u32_bytes n)
@@ -45,7 +52,7 @@ number n h = unsigned_spells 32 5 n (omega arith) (omega arith) h
 one_number : (byte n : ℕ) → IsU32 n → (Byte byte ▸ SpellsU32 n) (byte ∷ u32_bytes n)
 one_number byte n h = (byte ∷ [], u32_bytes n, refl, refl, number n h)
 
-opcode_spells : (c : ℕ) → c < 0x10C → SpellsOpcode c (opcode_bytes c)
+opcode_spells : (c : ℕ) → c < 0x10F → SpellsOpcode c (opcode_bytes c)
 opcode_spells c l = by (nat_lt c 0x100) refl
   where
     by : (b : Bool) → nat_lt c 0x100 ≡ b → SpellsOpcodeBy b c (cond b (c ∷ []) (0xFC ∷ u32_bytes (c - 0x100)))
@@ -57,6 +64,9 @@ two_numbers n k h j = (u32_bytes n, u32_bytes k, refl, number n h, number k j)
 
 byte_numbers : (byte n k : ℕ) → IsU32 n → IsU32 k → (Byte byte ▸ SpellsU32 n ▸ SpellsU32 k) (byte ∷ (u32_bytes n ++ u32_bytes k))
 byte_numbers byte n k h j = (byte ∷ [], u32_bytes n ++ u32_bytes k, refl, refl, two_numbers n k h j)
+
+zero_spells : SpellsU32 0 (0x00 ∷ [])
+zero_spells = subst (SpellsU32 0) zero_bytes (number 0 (omega arith))
 
 immediates_spell : (p : Profile) (i : Simple) → IsSimple i → SpellsImmediates p i (immediates i)
 immediates_spell p (Br l) h = number l h
@@ -72,6 +82,11 @@ immediates_spell p MemorySize h = refl
 immediates_spell p MemoryGrow h = refl
 immediates_spell p MemoryCopy h = (0x00 ∷ [], 0x00 ∷ [], refl, refl, refl)
 immediates_spell p MemoryFill h = refl
+immediates_spell p (MemoryInit x) h = (u32_bytes x, 0x00 ∷ [], refl, number x h, refl)
+immediates_spell p (DataDrop x) h = number x h
+immediates_spell p (TableInit x) h = (u32_bytes x, 0x00 ∷ [], refl, number x h, zero_spells)
+immediates_spell p (ElemDrop x) h = number x h
+immediates_spell p TableCopy h = (0x00 ∷ [], 0x00 ∷ [], refl, zero_spells, zero_spells)
 immediates_spell p (I32Const n) h = signed_spells 32 5 n (omega arith) (omega arith) h
 immediates_spell p (I64Const n) h = signed_spells 64 10 n (omega arith) (omega arith) h
 immediates_spell p (F32Const n) h = float_spells 4 n h
@@ -155,10 +170,13 @@ module _ {X : Type 0} (P : X → Form ℕ) (f : X → List ℕ) (I : X → Type 
     many [] = omega arith
     many (x ∷ xs) = omega (arith, some x, many xs, length-append (f x) (flat_map f xs))
 
+    pub few_listed : (xs : List X) → length (listed f xs) < 2 ^ 32 → IsU32 (length xs)
+    few_listed xs few = let l = part_less (u32_bytes (length xs)) (flat_map f xs) (2 ^ 32) few in omega (arith, many xs, l.1)
+
     pub list_spells : (xs : List X) → AllByRecursion I xs → length (listed f xs) < 2 ^ 32 → SpellsList P xs (listed f xs)
     list_spells xs h few =
         let l = part_less (u32_bytes (length xs)) (flat_map f xs) (2 ^ 32) few in
-        (u32_bytes (length xs), flat_map f xs, refl, number (length xs) (omega (arith, many xs, l.1)), each_spells xs h l.1)
+        (u32_bytes (length xs), flat_map f xs, refl, number (length xs) (few_listed xs few), each_spells xs h l.1)
 
     pub section_spells : (id : ℕ) (xs : List X) → AllByRecursion I xs → length (listed f xs) < 2 ^ 32 → ListSection id P xs (list_section id f xs)
     section_spells id [] h few = inr (refl, refl)
@@ -237,12 +255,6 @@ export_spells e h few =
     let l = part_less (sized e.name) (kind_byte e.kind ∷ u32_bytes e.index) (2 ^ 32) few in
     (sized e.name, kind_byte e.kind ∷ u32_bytes e.index, refl, name_spells e.name h.0 l.0, one_number (kind_byte e.kind) e.index h.1)
 
-element_spells : (p : Profile) (e : Element) → IsU32 e.table × IsConst e.offset × AllByRecursion IsU32 e.functions → length (element_bytes e) < 2 ^ 32 → SpellsElement p e (element_bytes e)
-element_spells p e h few =
-    let l = part_less (u32_bytes e.table) (constant_bytes e.offset ++ listed u32_bytes e.functions) (2 ^ 32) few in
-    let k = part_less (constant_bytes e.offset) (listed u32_bytes e.functions) (2 ^ 32) l.1 in
-    (u32_bytes e.table, constant_bytes e.offset ++ listed u32_bytes e.functions, refl, number e.table h.0, (constant_bytes e.offset, listed u32_bytes e.functions, refl, const_spells p e.offset h.1, list_spells SpellsU32 u32_bytes IsU32 (λ x i l. number x i) number_some e.functions h.2 k.1))
-
 -- locals
 added : (t : ValType) (runs : List (ℕ × ValType)) → locals_of (type_before t runs) ≡ t ∷ locals_of runs
 added t [] = refl
@@ -311,11 +323,82 @@ code_spells p f h few =
       (listed run_bytes (runs_of f.locals), ops_bytes (ops_of f.body) ++ 0x0B ∷ [], refl, locals_spell p f.locals h.0 h.1.1 k.0, (ops_bytes (ops_of f.body), 0x0B ∷ [], refl, instructions_spell p f.body h.1.2, refl)),
     )
 
-segment_spells : (p : Profile) (s : Segment) → IsU32 s.memory × IsConst s.offset × AreBytes s.bytes → length (segment_bytes s) < 2 ^ 32 → SpellsSegment p s (segment_bytes s)
+flag_two : SpellsU32 2 (0x02 ∷ [])
+flag_two = subst (SpellsU32 2) two_bytes (number 2 (omega arith))
+
+memory_spells : (x : ℕ) → IsU32 x → SpellsMemory true (Some x) (start_bytes true (Some x))
+memory_spells x h = by (x == 0) refl
+  where
+    by : (t : Bool) → (x == 0) ≡ t → SpellsMemory true (Some x) (cond t (u32_bytes 0) (0x02 ∷ u32_bytes x))
+    by true e = inl (eqb-true x 0 e, number 0 (omega arith))
+    by false e = inr (0x02 ∷ [], u32_bytes x, refl, flag_two, number x h)
+
+front_spells : (flagged : Bool) (d : SegmentMode) → CanMode flagged d → IsMode d → SpellsMemory flagged (index_of d) (start_bytes flagged (index_of d))
+front_spells true Passive c h = number 1 (omega arith)
+front_spells false Passive c h = let e : ⊥ = cc c in absurd e
+front_spells false (Active x offset) c h = number x h.0
+front_spells true (Active x offset) c h = memory_spells x h.0
+
+offset_spells : (p : Profile) (d : SegmentMode) → IsMode d → SpellsOffset p d (offset_bytes d)
+offset_spells p Passive h = refl
+offset_spells p (Active x offset) h = const_spells p offset h.1
+
+-- an element segment whose mode can be read, and whose numbers are in range
+abbrev pub IsElement : Profile → Element → Type 0
+IsElement p e = CanMode (has p BulkMemory) e.mode × (IsMode e.mode × AllByRecursion IsU32 e.functions)
+
+module _ (p : Profile) (xs : List ℕ) (h : AllByRecursion IsU32 xs) (few : length (listed u32_bytes xs) < 2 ^ 32) where
+  functions_spell : SpellsList SpellsU32 xs (listed u32_bytes xs)
+  functions_spell = list_spells SpellsU32 u32_bytes IsU32 (λ x i l. number x i) number_some xs h few
+
+  kind_spells : (Byte 0x00 ▸ SpellsList SpellsU32 xs) (0x00 ∷ listed u32_bytes xs)
+  kind_spells = (0x00 ∷ [], listed u32_bytes xs, refl, refl, functions_spell)
+
+  flagged_spells : (x : ℕ) (c : Const) → IsU32 x → IsConst c
+      → SpellsElements true (Some x) (SpellsConst p c) xs (start_bytes true (Some x) ++ (constant_bytes c ++ (element_kind_bytes true (Some x) ++ listed u32_bytes xs)))
+  flagged_spells x c h k = by (x == 0) refl
+    where
+      by : (t : Bool) → (x == 0) ≡ t
+          → SpellsElements true (Some x) (SpellsConst p c) xs (cond t (u32_bytes 0) (0x02 ∷ u32_bytes x) ++ (constant_bytes c ++ (cond t [] (0x00 ∷ []) ++ listed u32_bytes xs)))
+      by true e = inl (
+        eqb-true x 0 e,
+        (u32_bytes 0, constant_bytes c ++ listed u32_bytes xs, refl, number 0 (omega arith), (constant_bytes c, listed u32_bytes xs, refl, const_spells p c k, functions_spell)),
+      )
+      by false e = inr (
+        0x02 ∷ [],
+        u32_bytes x ++ (constant_bytes c ++ 0x00 ∷ listed u32_bytes xs),
+        refl,
+        flag_two,
+        (u32_bytes x, constant_bytes c ++ 0x00 ∷ listed u32_bytes xs, refl, number x h, (constant_bytes c, 0x00 ∷ listed u32_bytes xs, refl, const_spells p c k, kind_spells)),
+      )
+
+  elements_spell : (flagged : Bool) (d : SegmentMode) → CanMode flagged d → IsMode d
+      → SpellsElements flagged (index_of d) (SpellsOffset p d) xs (start_bytes flagged (index_of d) ++ (offset_bytes d ++ (element_kind_bytes flagged (index_of d) ++ listed u32_bytes xs)))
+  elements_spell false Passive c i = let e : ⊥ = cc c in absurd e
+  elements_spell false (Active x k) c i =
+      (u32_bytes x, constant_bytes k ++ listed u32_bytes xs, refl, number x i.0, (constant_bytes k, listed u32_bytes xs, refl, const_spells p k i.1, functions_spell))
+  elements_spell true Passive c i =
+      (u32_bytes 1, 0x00 ∷ listed u32_bytes xs, refl, number 1 (omega arith), ([], 0x00 ∷ listed u32_bytes xs, refl, refl, kind_spells))
+  elements_spell true (Active x k) c i = flagged_spells x k i.0 i.1
+
+element_spells : (p : Profile) (e : Element) → IsElement p e → length (element_bytes (has p BulkMemory) e) < 2 ^ 32 → SpellsElement p e (element_bytes (has p BulkMemory) e)
+element_spells p e h few =
+    let flagged = has p BulkMemory in
+    let l = part_less (start_bytes flagged (index_of e.mode)) (offset_bytes e.mode ++ (element_kind_bytes flagged (index_of e.mode) ++ listed u32_bytes e.functions)) (2 ^ 32) few in
+    let k = part_less (offset_bytes e.mode) (element_kind_bytes flagged (index_of e.mode) ++ listed u32_bytes e.functions) (2 ^ 32) l.1 in
+    let j = part_less (element_kind_bytes flagged (index_of e.mode)) (listed u32_bytes e.functions) (2 ^ 32) k.1 in
+    elements_spell p e.functions h.1.1 j.1 flagged e.mode h.0 h.1.0
+
+-- a data segment whose mode can be read, and whose numbers are in range
+abbrev IsData : Profile → Segment → Type 0
+IsData p s = CanMode (has p BulkMemory) s.mode × (IsMode s.mode × AreBytes s.bytes)
+
+segment_spells : (p : Profile) (s : Segment) → IsData p s → length (segment_bytes (has p BulkMemory) s) < 2 ^ 32 → SpellsSegment p s (segment_bytes (has p BulkMemory) s)
 segment_spells p s h few =
-    let l = part_less (u32_bytes s.memory) (constant_bytes s.offset ++ sized s.bytes) (2 ^ 32) few in
-    let k = part_less (constant_bytes s.offset) (sized s.bytes) (2 ^ 32) l.1 in
-    (u32_bytes s.memory, constant_bytes s.offset ++ sized s.bytes, refl, number s.memory h.0, (constant_bytes s.offset, sized s.bytes, refl, const_spells p s.offset h.1, bytes_spell s.bytes h.2 k.1))
+    let front = start_bytes (has p BulkMemory) (index_of s.mode) in
+    let l = part_less front (offset_bytes s.mode ++ sized s.bytes) (2 ^ 32) few in
+    let k = part_less (offset_bytes s.mode) (sized s.bytes) (2 ^ 32) l.1 in
+    (front, offset_bytes s.mode ++ sized s.bytes, refl, front_spells (has p BulkMemory) s.mode h.0 h.1.0, (offset_bytes s.mode, sized s.bytes, refl, offset_spells p s.mode h.1.0, bytes_spell s.bytes h.1.1 k.1))
 
 start_spells : (s : Option ℕ) → IfSome s IsU32 → StartSection s (start_section s)
 start_spells None h = refl
@@ -353,14 +436,33 @@ global_some g = omega (arith, length-append (global_type_bytes g.ty) (constant_b
 export_some : (e : Export) → 1 ≤ length (export_bytes e)
 export_some e = omega (arith, length-append (sized e.name) (kind_byte e.kind ∷ u32_bytes e.index), some_sized e.name)
 
-element_some : (e : Element) → 1 ≤ length (element_bytes e)
-element_some e = omega (arith, length-append (u32_bytes e.table) (constant_bytes e.offset ++ listed u32_bytes e.functions), number_some e.table)
+element_some : (flagged : Bool) (e : Element) → 1 ≤ length (element_bytes flagged e)
+element_some flagged e =
+    let front = start_bytes flagged (index_of e.mode) in
+    let kind = element_kind_bytes flagged (index_of e.mode) in
+    let functions = listed u32_bytes e.functions in
+    omega (
+      arith,
+      length-append front (offset_bytes e.mode ++ (kind ++ functions)),
+      length-append (offset_bytes e.mode) (kind ++ functions),
+      length-append kind functions,
+      length-append (u32_bytes (length e.functions)) (flat_map u32_bytes e.functions),
+      number_some (length e.functions),
+    )
 
-segment_some : (s : Segment) → 1 ≤ length (segment_bytes s)
-segment_some s = omega (arith, length-append (u32_bytes s.memory) (constant_bytes s.offset ++ sized s.bytes), number_some s.memory)
+segment_some : (flagged : Bool) (s : Segment) → 1 ≤ length (segment_bytes flagged s)
+segment_some flagged s =
+    let front = start_bytes flagged (index_of s.mode) in
+    omega (arith, length-append front (offset_bytes s.mode ++ sized s.bytes), length-append (offset_bytes s.mode) (sized s.bytes), some_sized s.bytes)
 
-pub spells : (p : Profile) (m : Module) → HaveLocals p m.functions → IsModule m → Fits m → SpellsModule p m (canon m)
-spells p m types h fit = (
+-- the data count section of a module whose data segments fit
+count_spells : (p : Profile) (named : Bool) (n : ℕ) → (named ≡ true → IsTrue (has p BulkMemory)) → IsU32 n → DataCountSection p named n (data_count_section named n)
+count_spells p false n may h = inr (refl, refl)
+count_spells p true n may h = inl (may refl, (12 ∷ [], sized (u32_bytes n), refl, refl, (u32_bytes (length (u32_bytes n)), u32_bytes n, refl, number (length (u32_bytes n)) (omega (arith, short 5 n)), number n h)))
+
+pub spells : (p : Profile) (m : Module) → HaveLocals p m.functions → HaveModes (has p BulkMemory) m → MayCount p m → IsModule m → FitsWith (has p BulkMemory) m
+    → SpellsModule p m (canon_with (has p BulkMemory) m)
+spells p m types modes may h fit = (
   _,
   _,
   refl,
@@ -374,9 +476,14 @@ spells p m types h fit = (
       (plainly _ _ (list_section 6 global_bytes m.globals) _ (section_spells (SpellsGlobal p) global_bytes (λ g. IsConst g.init) (λ g i l. global_spells p g i) global_some 6 m.globals h.globals fit.globals)
       (plainly _ _ (list_section 7 export_bytes m.exports) _ (section_spells SpellsExport export_bytes (λ e. IsUtf8 e.name × IsU32 e.index) export_spells export_some 7 m.exports h.exports fit.exports)
       (plainly _ _ (start_section m.start) _ (start_spells m.start h.start)
-      (plainly _ _ (list_section 9 element_bytes m.elements) _ (section_spells (SpellsElement p) element_bytes (λ e. IsU32 e.table × IsConst e.offset × AllByRecursion IsU32 e.functions) (element_spells p) element_some 9 m.elements h.elements fit.elements)
+      (plainly _ _ (list_section 9 (element_bytes (has p BulkMemory)) m.elements) _
+      (section_spells (SpellsElement p) (element_bytes (has p BulkMemory)) (IsElement p) (element_spells p) (element_some (has p BulkMemory)) 9 m.elements
+      (both_in (λ (e : Element). CanMode (has p BulkMemory) e.mode) (λ (e : Element). IsMode e.mode × AllByRecursion IsU32 e.functions) m.elements modes.0 h.elements) fit.elements)
+      (plainly _ _ (data_count_section (bodies_name_segment m.functions) (length m.segments)) _
+      (count_spells p (bodies_name_segment m.functions) (length m.segments) may (few_listed (SpellsSegment p) (segment_bytes (has p BulkMemory)) (IsData p) (segment_spells p) (segment_some (has p BulkMemory)) m.segments fit.segments))
       (plainly _ _ (list_section 10 code_bytes m.functions) _
       (section_spells (SpellsCode p) code_bytes (IsCode p) (code_spells p) (λ f. some_sized (code_contents f)) 10 m.functions (both_in (λ (f : Function). AllByRecursion (HasType p) f.locals) InRange m.functions types h.functions) fit.codes)
-      (last_one _ (list_section 11 segment_bytes m.segments)
-      (section_spells (SpellsSegment p) segment_bytes (λ s. IsU32 s.memory × IsConst s.offset × AreBytes s.bytes) (segment_spells p) segment_some 11 m.segments h.segments fit.segments))))))))))),
+      (last_one _ (list_section 11 (segment_bytes (has p BulkMemory)) m.segments)
+      (section_spells (SpellsSegment p) (segment_bytes (has p BulkMemory)) (IsData p) (segment_spells p) (segment_some (has p BulkMemory)) 11 m.segments
+      (both_in (λ (s : Segment). CanMode (has p BulkMemory) s.mode) (λ (s : Segment). IsMode s.mode × AreBytes s.bytes) m.segments modes.1 h.segments) fit.segments)))))))))))),
 )

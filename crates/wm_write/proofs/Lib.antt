@@ -11,6 +11,7 @@ pub mod LeastRuns
 pub mod OpLengths
 pub mod OpcodeBytes
 pub mod Shortest
+pub mod SegmentFronts
 pub mod RoundTrip
 pub mod Checks
 pub mod PrintedNumbers

@@ -9,11 +9,13 @@ use Rattle.wm_syntax.proofs.OpTable.{code_length, small_code}
 use Rattle.wm_syntax.specs.declared.instructions.Op.{Op}
 use Rattle.wm_syntax.specs.declared.instructions.Op.TheVariants as op
 use Rattle.wm_syntax.specs.declared.instructions.Simple.{Simple}
-use Rattle.wm_syntax.specs.declared.instructions.Simple.TheVariants.{CallIndirect, Load, Store}
+use Rattle.wm_syntax.specs.declared.instructions.Simple.TheVariants.{CallIndirect, Load, MemoryInit, Store, TableInit}
 use Rattle.wm_write.specs.Canon.{opcode_bytes, immediates, op_bytes, ops_bytes, u32_bytes}
 
 immediates_counted : (i : Simple) → length (immediates i) ≡ immediates_len i
 immediates_counted (CallIndirect x) = length-append (u32_bytes x) (0x00 ∷ [])
+immediates_counted (MemoryInit x) = length-append (u32_bytes x) (0x00 ∷ [])
+immediates_counted (TableInit x) = length-append (u32_bytes x) (0x00 ∷ [])
 immediates_counted (Load o at) = length-append (u32_bytes at.align) (u32_bytes at.offset)
 immediates_counted (Store o at) = length-append (u32_bytes at.align) (u32_bytes at.offset)
 immediates_counted i = refl

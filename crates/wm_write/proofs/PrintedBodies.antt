@@ -40,7 +40,7 @@ use Rattle.wm_tokens.specs.Written.{Closes, Names, Opens, Scope, TypeUse, Writes
 use Rattle.wm_tokens.specs.Written as w
 use Rattle.wm_write.specs.inner.Printed.{tokens}
 use Rattle.wm_write.proofs.PrintedTokens.{IsBreak, IsHead, body_line_breaks, gap_breaks}
-use Rattle.wm_write.proofs.PrintedForms.{IsPrefix, Prints, head_is, id_at, prints_as, prints_float, prints_form, prints_index, prints_integer, prints_key, prints_label, prints_nothing, prints_then, prints_type, prints_use, prints_word}
+use Rattle.wm_write.proofs.PrintedForms.{IsPrefix, Prints, head_is, id_at, prints_as, prints_float, prints_form, prints_index, prints_integer, prints_key, prints_label, prints_nothing, prints_number, prints_then, prints_type, prints_use, prints_word}
 use Rattle.wm_write.proofs.PrintedRanges.{AreFine, Counts, IsFine, IsFineInstruction}
 
 -- ---- the names of instructions are atoms
@@ -153,6 +153,10 @@ module _ (sc : Scope) (c : Counts) (h : HasNames sc.names c) where
   prints_operand labels (s.LocalTee x) f = prints_index sc.locals x f
   prints_operand labels (s.GlobalGet x) f = prints_use (codes "$g") sc.names.globals x g_prefix f.0 (h.globals x f.1)
   prints_operand labels (s.GlobalSet x) f = prints_use (codes "$g") sc.names.globals x g_prefix f.0 (h.globals x f.1)
+  prints_operand labels (s.MemoryInit x) f = prints_number x f
+  prints_operand labels (s.DataDrop x) f = prints_number x f
+  prints_operand labels (s.TableInit x) f = prints_number x f
+  prints_operand labels (s.ElemDrop x) f = prints_number x f
   prints_operand labels (s.I32Const n) f = prints_integer 32 n (lit< tt) f (wider n f)
   prints_operand labels (s.I64Const n) f = prints_integer 64 n (lit< tt) f f
   prints_operand labels (s.F32Const n) f = prints_float float.F32 n f

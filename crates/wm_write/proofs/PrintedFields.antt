@@ -1,9 +1,13 @@
 -- The printed text of a field writes it.
 use Rattle.std.proofs.Common.{◌≡◌, ℕ, zero, suc, ◌<◌, ◌^◌, Bool, true, false, List, [], ◌∷◌, ◌++◌, length, map, Option, Some, None, refl, sym, ap, inl, inr, slice_get}
+use Rattle.wm_write.specs.Layout.{data_mode_words, element_mode_words}
+use Rattle.wm_tokens.specs.Fields.{WritesMode, WritesOwn, WritesStrings, IsNoneOf}
+use Rattle.wm_syntax.specs.declared.modules.SegmentMode.TheVariants.{Passive, Active}
+use Rattle.wm_syntax.specs.declared.modules.SegmentMode.{SegmentMode}
 use Rattle.std.specs.Prelude.{IfSome, IsUtf8, codes}
 use Rattle.std.specs.List.{AllByRecursion}
 use Rattle.std.proofs.lemmas.List.{append-nil}
-use Rattle.wm_syntax.specs.Spelling.{Each, AreBytes}
+use Rattle.wm_syntax.specs.Spelling.{Each, AreBytes, ◌▸◌}
 use Rattle.wm_syntax.specs.Types.{Signature}
 use Rattle.wm_syntax.specs.declared.types.ValType.{ValType}
 use Rattle.wm_syntax.specs.declared.types.Limits.{Limits}
@@ -235,22 +239,49 @@ module _ (names : Names) (c : Counts) (tables memories : ℕ) (h : HasAllNames n
   functions_used [] f = prints_nothing
   functions_used (x ∷ xs) f = prints_then (function_name x ∷ []) (map function_name xs) (prints_function_use x f.0) (functions_used xs f.1)
 
-  prints_functions : (xs : List ℕ) → AllByRecursion (λ x. IsU32 x × (x < c.functions)) xs → Prints (WritesFunctions names.functions xs) (map function_name xs)
-  prints_functions xs f = prints_as (map function_name xs) (λ k. ([], tokens (map function_name xs), refl, inl refl, k)) (functions_used xs f)
+  prints_functions : (x : ℕ) (k : Const) (xs : List ℕ) → AllByRecursion (λ x. IsU32 x × (x < c.functions)) xs → Prints (WritesFunctions names.functions (Active x k) xs) (map function_name xs)
+  prints_functions x k xs f = prints_as (map function_name xs) (λ k. ([], tokens (map function_name xs), refl, inl refl, k)) (functions_used xs f)
 
   prints_target : (ids : Ids) (x : ℕ) (ws : List Word) → Prints (Resolves ids x) ws → Prints (WritesTarget ids x) ws
   prints_target ids x ws h = prints_as ws (λ k. inl k) h
 
-  pub prints_element : (e : Element) → IsU32 e.table × (e.table < tables) × IsFine c (constant e.offset) × AllByRecursion (λ x. IsU32 x × (x < c.functions)) e.functions
+  -- a mode whose table or memory and whose constant are there
+  abbrev pub IsFineMode : ℕ → SegmentMode → Type 0
+  IsFineMode count Passive = Unit {0}
+  IsFineMode count (Active x k) = IsU32 x × (x < count) × IsFine c (constant k)
+
+  none_of : (ids : Ids) → IsNoneOf ids None
+  none_of ids = λ name x e. let n : ⊥ = cc e in absurd n
+
+  prints_own : (ids : Ids) → Prints (WritesOwn ids) []
+  prints_own ids = prints_as [] (λ k. (None, none_of ids, k)) prints_nothing
+
+  prints_element_words : (d : SegmentMode) (xs : List ℕ) → IsFineMode tables d → AllByRecursion (λ x. IsU32 x × (x < c.functions)) xs
+      → Prints (WritesMode names names.tables d ▸ WritesFunctions names.functions d xs) (element_mode_words d ++ map function_name xs)
+  prints_element_words Passive xs f g =
+      prints_then [] (spaced (codes "func") ∷ map function_name xs) (prints_own names.tables)
+      (prints_then (spaced (codes "func") ∷ []) (map function_name xs) (prints_word gap (codes "func") gap_breaks (refl, inr (inr refl))) (functions_used xs g))
+  prints_element_words (Active x k) xs f g =
+      prints_then (table_name x ∷ offset_words k) (map function_name xs)
+      (prints_then (table_name x ∷ []) (offset_words k) (prints_target names.tables x (table_name x ∷ []) (prints_use (codes "$tab") names.tables x tab_prefix f.0 (h.tables x f.1))) (prints_offset k f.2))
+      (prints_functions x k xs g)
+
+  pub prints_element : (e : Element) → IsFineMode tables e.mode × AllByRecursion (λ x. IsU32 x × (x < c.functions)) e.functions
       → Prints (WritesField names (element_field e)) (l.element_field e)
   prints_element e f =
-      prints_form field_line (codes "elem") (table_name e.table ∷ offset_words e.offset ++ map function_name e.functions) field_line_breaks (head_is 101 (codes "lem") refl refl refl)
-      (prints_then (table_name e.table ∷ []) _ (prints_target names.tables e.table (table_name e.table ∷ []) (prints_use (codes "$tab") names.tables e.table tab_prefix f.0 (h.tables e.table f.1)))
-      (prints_then (offset_words e.offset) (map function_name e.functions) (prints_offset e.offset f.2) (prints_functions e.functions f.3)))
+      prints_form field_line (codes "elem") (element_mode_words e.mode ++ map function_name e.functions) field_line_breaks (head_is 101 (codes "lem") refl refl refl)
+      (prints_element_words e.mode e.functions f.0 f.1)
 
-  pub prints_segment : (s : Segment) → IsU32 s.memory × (s.memory < memories) × IsFine c (constant s.offset) × AreBytes s.bytes
-      → Prints (WritesField names (segment_field s)) (l.segment_field s)
+  prints_strings : (bytes : List ℕ) → AreBytes bytes → Prints (WritesStrings bytes) (quoted bytes ∷ [])
+  prints_strings bytes f = prints_as (quoted bytes ∷ []) (λ e. (bytes ∷ [], sym (append-nil bytes), e)) (prints_string bytes f)
+
+  prints_mode : (d : SegmentMode) → IsFineMode memories d → Prints (WritesMode names names.memories d) (data_mode_words d)
+  prints_mode Passive f = prints_own names.memories
+  prints_mode (Active x k) f =
+      prints_then (memory_name x ∷ []) (offset_words k) (prints_target names.memories x (memory_name x ∷ []) (prints_use (codes "$mem") names.memories x mem_prefix f.0 (h.memories x f.1)))
+      (prints_offset k f.2)
+
+  pub prints_segment : (s : Segment) → IsFineMode memories s.mode × AreBytes s.bytes → Prints (WritesField names (segment_field s)) (l.segment_field s)
   prints_segment s f =
-      prints_form field_line (codes "data") (memory_name s.memory ∷ offset_words s.offset ++ quoted s.bytes ∷ []) field_line_breaks (head_is 100 (codes "ata") refl refl refl)
-      (prints_then (memory_name s.memory ∷ []) _ (prints_target names.memories s.memory (memory_name s.memory ∷ []) (prints_use (codes "$mem") names.memories s.memory mem_prefix f.0 (h.memories s.memory f.1)))
-      (prints_then (offset_words s.offset) (quoted s.bytes ∷ []) (prints_offset s.offset f.2) (prints_as (quoted s.bytes ∷ []) (λ e. (s.bytes ∷ [], sym (append-nil s.bytes), e)) (prints_string s.bytes f.3))))
+      prints_form field_line (codes "data") (data_mode_words s.mode ++ quoted s.bytes ∷ []) field_line_breaks (head_is 100 (codes "ata") refl refl refl)
+      (prints_then (data_mode_words s.mode) (quoted s.bytes ∷ []) (prints_mode s.mode f.0) (prints_strings s.bytes f.1))

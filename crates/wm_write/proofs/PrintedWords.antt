@@ -52,10 +52,31 @@ sent_parens before head words after s t u v h k l =
     sent_same _ _ s v (sym (parens_text before head words after))
     (sent_then (before ++ 40 ∷ head) (words_text words ++ (after ++ 41 ∷ [])) s t v h (sent_then (words_text words) (after ++ 41 ∷ []) t u v k l))
 
+-- Parentheses whose front is written with their first words.
+pub sent_fronted : (before head : List ℕ) (front rest : List Word) (after : List ℕ) (s t u v : State)
+    → Sent ((before ++ 40 ∷ head) ++ words_text front) s t → Sent (words_text rest) t u → Sent (after ++ 41 ∷ []) u v
+    → Sent (words_text (parens before head (front ++ rest) after)) s v
+sent_fronted before head front rest after s t u v h k l =
+    let begun = before ++ 40 ∷ head in
+    let e : words_text (parens before head (front ++ rest) after) ≡ ((begun ++ words_text front) ++ words_text rest) ++ (after ++ 41 ∷ []) =
+    parens_text before head (front ++ rest) after
+    ∙ (sym (append_assoc begun (words_text (front ++ rest)) (after ++ 41 ∷ []))
+    ∙ ap (λ (z : List ℕ). z ++ (after ++ 41 ∷ [])) (ap (λ (z : List ℕ). begun ++ z) (flat_map-append word_text front rest)
+    ∙ sym (append_assoc begun (words_text front) (words_text rest)))) in
+    sent_same _ _ s v (sym e) (sent_then ((begun ++ words_text front) ++ words_text rest) (after ++ 41 ∷ []) s u v
+    (sent_then (begun ++ words_text front) (words_text rest) s t u h k) l)
+
 -- Parentheses whose first word is a name.
 named_text : (before head prefix : List ℕ) (n : ℕ) (rest : List Word)
     → (before ++ 40 ∷ head) ++ words_text (name prefix n ∷ rest) ≡ ((before ++ 40 ∷ (head ++ 32 ∷ prefix)) ++ decimal n) ++ words_text rest
 named_text before head prefix n rest = simp append_assoc
+
+pub sent_named_front : (before head prefix : List ℕ) (n : ℕ) (rest : List Word) (s t u : State)
+    → Sent ((before ++ 40 ∷ (head ++ 32 ∷ prefix)) ++ decimal n) s t → Sent (words_text rest) t u
+    → Sent ((before ++ 40 ∷ head) ++ words_text (name prefix n ∷ rest)) s u
+sent_named_front before head prefix n rest s t u h k =
+    sent_same _ _ s u (sym (named_text before head prefix n rest))
+    (sent_then ((before ++ 40 ∷ (head ++ 32 ∷ prefix)) ++ decimal n) (words_text rest) s t u h k)
 
 pub sent_named : (before head prefix : List ℕ) (n : ℕ) (rest : List Word) (after : List ℕ) (s t u v : State)
     → Sent ((before ++ 40 ∷ (head ++ 32 ∷ prefix)) ++ decimal n) s t → Sent (words_text rest) t u → Sent (after ++ 41 ∷ []) u v

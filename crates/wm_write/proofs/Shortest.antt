@@ -1,5 +1,15 @@
 -- The canonical binary is no longer than any other spelling of the same parts.
 use Rattle.std.proofs.Common.{ℕ, ◌≡◌, ◌<◌, ◌≤◌, ◌^◌, List, [], ◌∷◌, ◌++◌, Option, Some, None, length, refl, sym, ap, subst, ◌∙◌, arith, length-append, append-nil, append_assoc, map, flat_map, inl, inr, Bool, true, false}
+use Rattle.std.specs.Prelude.{◌==◌}
+use Rattle.std.proofs.lemmas.Bool.{eqb-true}
+use Rattle.wm_write.proofs.OpcodeBytes.{two_bytes, zero_bytes}
+use Rattle.std.proofs.Common.{◌⊎◌}
+use Rattle.wm_machine.specs.Sections.{SpellsMemory, SpellsOffset}
+use Rattle.wm_syntax.specs.Modules.{index_of}
+use Rattle.wm_syntax.specs.Profiles.{has}
+use Rattle.wm_syntax.specs.declared.profile.Feature.TheVariants.{BulkMemory}
+use Rattle.wm_syntax.specs.declared.modules.SegmentMode.TheVariants.{Passive, Active}
+use Rattle.wm_syntax.specs.declared.modules.SegmentMode.{SegmentMode}
 use Rattle.std.proofs.lemmas.Grind.{flat_map-append}
 use Rattle.wm_syntax.specs.Spelling.{Form, Byte, Exactly, Each, AreBytes, ◌▸◌}
 use Rattle.wm_syntax.specs.declared.types.ValType.{ValType}
@@ -9,7 +19,7 @@ use Rattle.wm_syntax.specs.declared.types.Const.{Const}
 use Rattle.wm_syntax.specs.declared.modules.ImportDesc.{ImportDesc}
 use Rattle.wm_syntax.specs.declared.modules.ImportDesc.TheVariants.{Func, Table, Memory, Global}
 use Rattle.wm_syntax.specs.declared.instructions.Simple.{Simple}
-use Rattle.wm_syntax.specs.declared.instructions.Simple.TheVariants.{Br, BrIf, Call, CallIndirect, LocalGet, LocalSet, LocalTee, GlobalGet, GlobalSet, MemorySize, MemoryGrow, MemoryCopy, MemoryFill, I32Const, I64Const, F32Const, F64Const, Load, Store}
+use Rattle.wm_syntax.specs.declared.instructions.Simple.TheVariants.{Br, BrIf, Call, CallIndirect, LocalGet, LocalSet, LocalTee, GlobalGet, GlobalSet, MemorySize, MemoryGrow, MemoryCopy, MemoryFill, MemoryInit, DataDrop, I32Const, I64Const, F32Const, F64Const, Load, Store, TableInit, ElemDrop, TableCopy}
 use Rattle.wm_syntax.specs.declared.instructions.Op.TheVariants as op
 use Rattle.wm_syntax.specs.declared.profile.Profile.{Profile}
 use Rattle.wm_syntax.specs.Runs.{runs_of}
@@ -18,11 +28,11 @@ use Rattle.wm_syntax.specs.Instructions.{Instruction, Instructions, none, snoc, 
 use Rattle.std.specs.Prelude.{nat_lt, ◌-◌, cond}
 use Rattle.wm_syntax.specs.Opcodes.{opcode}
 use Rattle.wm_syntax.specs.Encodings.{SpellsOpcode, SpellsOpcodeBy, SpellsImmediates, SpellsSimple, SpellsTable, SpellsElse, SpellsInstruction, SpellsInstructions, SpellsExpression, float_bytes}
-use Rattle.wm_syntax.specs.Modules.{Module, Import, Function, GlobalDef, Export, Element, Segment, constant, constant_body}
+use Rattle.wm_syntax.specs.Modules.{bodies_name_segment, Module, Import, Function, GlobalDef, Export, Element, Segment, constant, constant_body}
 use Rattle.wm_syntax.proofs.Spellings.{shortest_is_least, signed_is_least, unsigned_range}
 use Rattle.wm_syntax.proofs.FloatBytes.{float_one}
-use Rattle.wm_machine.specs.Sections.{Customs, ListSection, StartSection, header, SpellsConst, SpellsDesc, SpellsImport, SpellsGlobal, SpellsExport, SpellsElement, SpellsRun, SpellsLocals, SpellsCode, SpellsSegment, SpellsModule, kind_byte}
-use Rattle.wm_write.specs.Canon.{opcode_bytes, immediates, u32_bytes, op_bytes, ops_bytes, listed, sized, value_type_bytes, signature_bytes, bounds_bytes, limits_bytes, table_bytes, global_type_bytes, desc_bytes, import_bytes, constant_bytes, global_bytes, export_bytes, element_bytes, run_bytes, code_contents, code_bytes, segment_bytes, list_section, start_section, canon, Fits, NoLonger, HasShortestSections}
+use Rattle.wm_machine.specs.Sections.{Customs, DataCountSection, ListSection, StartSection, header, SpellsConst, SpellsDesc, SpellsImport, SpellsGlobal, SpellsExport, SpellsElement, SpellsElements, SpellsRun, SpellsLocals, SpellsCode, SpellsSegment, SpellsModule, kind_byte, Section}
+use Rattle.wm_write.specs.Canon.{opcode_bytes, immediates, u32_bytes, op_bytes, ops_bytes, listed, sized, value_type_bytes, signature_bytes, bounds_bytes, limits_bytes, table_bytes, global_type_bytes, desc_bytes, import_bytes, constant_bytes, global_bytes, export_bytes, element_bytes, run_bytes, code_contents, code_bytes, segment_bytes, list_section, start_section, canon_with, FitsWith, start_bytes, element_kind_bytes, offset_bytes, NoLonger, HasShortestSections, data_count_section, canon, Fits}
 use Rattle.wm_syntax.proofs.NumberLoops.{short}
 use Rattle.wm_write.proofs.LeastRuns.{least_locals, number_rises}
 
@@ -111,6 +121,9 @@ in_opcode c = by (nat_lt c 0x100)
     by true = exactly (c ∷ [])
     by false = then (0xFC ∷ []) (u32_bytes (c - 0x100)) (Byte 0xFC) (SpellsU32 (c - 0x100)) (exactly (0xFC ∷ [])) (number (c - 0x100))
 
+one_zero : NoLonger (0x00 ∷ []) (SpellsU32 0)
+one_zero b h = subst (λ z. length z ≤ length b) zero_bytes (number 0 b h)
+
 in_immediates : (p : Profile) (i : Simple) → NoLonger (immediates i) (SpellsImmediates p i)
 in_immediates p (Br l) = number l
 in_immediates p (BrIf l) = number l
@@ -125,6 +138,11 @@ in_immediates p MemorySize = exactly (0x00 ∷ [])
 in_immediates p MemoryGrow = exactly (0x00 ∷ [])
 in_immediates p MemoryCopy = then (0x00 ∷ []) (0x00 ∷ []) (Byte 0x00) (Byte 0x00) (exactly (0x00 ∷ [])) (exactly (0x00 ∷ []))
 in_immediates p MemoryFill = exactly (0x00 ∷ [])
+in_immediates p (MemoryInit x) = then (u32_bytes x) (0x00 ∷ []) (SpellsU32 x) (Byte 0x00) (number x) (exactly (0x00 ∷ []))
+in_immediates p (DataDrop x) = number x
+in_immediates p (TableInit x) = then (u32_bytes x) (0x00 ∷ []) (SpellsU32 x) (SpellsU32 0) (number x) one_zero
+in_immediates p (ElemDrop x) = number x
+in_immediates p TableCopy = then (0x00 ∷ []) (0x00 ∷ []) (SpellsU32 0) (SpellsU32 0) one_zero one_zero
 in_immediates p (I32Const n) = λ b h. signed_is_least 32 5 n b h
 in_immediates p (I64Const n) = λ b h. signed_is_least 64 10 n b h
 in_immediates p (F32Const n) = λ b h. exactly (float_bytes 4 n) b (float_one 4 n b h)
@@ -199,15 +217,105 @@ constant_expression p c = equal _ _ (SpellsConst p c) (ap (λ z. z ++ 0x0B ∷ [
 defined : (p : Profile) (g : GlobalDef) → NoLonger (global_bytes g) (SpellsGlobal p g)
 defined p g = then (global_type_bytes g.ty) (constant_bytes g.init) (SpellsGlobalType g.ty) (SpellsConst p g.init) (global_type g.ty) (constant_expression p g.init)
 
-element : (p : Profile) (e : Element) → NoLonger (element_bytes e) (SpellsElement p e)
-element p e =
-    then (u32_bytes e.table) (constant_bytes e.offset ++ listed u32_bytes e.functions) (SpellsU32 e.table) (SpellsConst p e.offset ▸ SpellsList SpellsU32 e.functions) (number e.table)
-    (then (constant_bytes e.offset) (listed u32_bytes e.functions) (SpellsConst p e.offset) (SpellsList SpellsU32 e.functions) (constant_expression p e.offset) (list u32_bytes SpellsU32 number e.functions))
+-- The front of a segment: with flags where it is read with them, and without flags in any case.
+abbrev IsShort : (flagged read : Bool) → Type 0
+IsShort flagged read = (flagged ≡ false) ⊎ (flagged ≡ read)
 
-segment : (p : Profile) (s : Segment) → NoLonger (segment_bytes s) (SpellsSegment p s)
-segment p s =
-    then (u32_bytes s.memory) (constant_bytes s.offset ++ sized s.bytes) (SpellsU32 s.memory) (SpellsConst p s.offset ▸ SpellsBytes s.bytes) (number s.memory)
-    (then (constant_bytes s.offset) (sized s.bytes) (SpellsConst p s.offset) (SpellsBytes s.bytes) (constant_expression p s.offset) (bytes s.bytes))
+flag_two : NoLonger (0x02 ∷ []) (SpellsU32 2)
+flag_two b h = subst (λ z. length z ≤ length b) two_bytes (number 2 b h)
+
+some_memory : (x : ℕ) → NoLonger (start_bytes true (Some x)) (SpellsMemory true (Some x))
+some_memory x b h = by (x == 0) refl h
+  where
+    by : (t : Bool) → (x == 0) ≡ t → SpellsMemory true (Some x) b → length (cond t (u32_bytes 0) (0x02 ∷ u32_bytes x)) ≤ length b
+    by true e (inl h) = number 0 b h.1
+    by true e (inr (front, back, is, h, k)) = omega (arith, ap length is, length-append front back, number 0 back (subst (λ z. SpellsU32 z back) (eqb-true x 0 e) k))
+    by false e (inl h) = let f : true ≡ false = subst (λ z. (z == 0) ≡ false) h.0 e in let g : ⊥ = cc f in absurd g
+    by false e (inr h) = then (0x02 ∷ []) (u32_bytes x) (SpellsU32 2) (SpellsU32 x) flag_two (number x) b h
+
+plain_memory : (x : ℕ) → NoLonger (u32_bytes x) (SpellsMemory true (Some x))
+plain_memory x b (inl h) = number x b (subst (λ z. SpellsU32 z b) (sym h.0) h.1)
+plain_memory x b (inr (front, back, is, h, k)) = omega (arith, ap length is, length-append front back, number x back k)
+
+in_memory : (flagged read : Bool) → IsShort flagged read → (x : Option ℕ) → NoLonger (start_bytes flagged x) (SpellsMemory read x)
+in_memory flagged false s None b h = absurd h
+in_memory false false s (Some x) b h = number x b h
+in_memory true false s (Some x) b h = absurd (never s)
+  where
+    never : IsShort true false → ⊥
+    never (inl e) = cc e
+    never (inr e) = cc e
+in_memory false true s None b h = number 1 b h
+in_memory true true s None b h = number 1 b h
+in_memory false true s (Some x) b h = plain_memory x b h
+in_memory true true s (Some x) b h = some_memory x b h
+
+in_offset : (p : Profile) (d : SegmentMode) → NoLonger (offset_bytes d) (SpellsOffset p d)
+in_offset p Passive = exactly []
+in_offset p (Active x c) = constant_expression p c
+
+segment : (flagged : Bool) (p : Profile) → IsShort flagged (has p BulkMemory) → (s : Segment) → NoLonger (segment_bytes flagged s) (SpellsSegment p s)
+segment flagged p short s =
+    then (start_bytes flagged (index_of s.mode)) (offset_bytes s.mode ++ sized s.bytes) (SpellsMemory (has p BulkMemory) (index_of s.mode)) (SpellsOffset p s.mode ▸ SpellsBytes s.bytes)
+    (in_memory flagged (has p BulkMemory) short (index_of s.mode))
+    (then (offset_bytes s.mode) (sized s.bytes) (SpellsOffset p s.mode) (SpellsBytes s.bytes) (in_offset p s.mode) (bytes s.bytes))
+
+-- an element segment
+module _ (p : Profile) (d : SegmentMode) (xs : List ℕ) where
+  abbrev functions : List ℕ
+  functions = listed u32_bytes xs
+
+  in_functions : NoLonger functions (SpellsList SpellsU32 xs)
+  in_functions = list u32_bytes SpellsU32 number xs
+
+  plainly : NoLonger (offset_bytes d ++ functions) (SpellsOffset p d ▸ SpellsList SpellsU32 xs)
+  plainly = then (offset_bytes d) functions (SpellsOffset p d) (SpellsList SpellsU32 xs) (in_offset p d) in_functions
+
+  with_kind : NoLonger (offset_bytes d ++ 0x00 ∷ functions) (SpellsOffset p d ▸ Byte 0x00 ▸ SpellsList SpellsU32 xs)
+  with_kind =
+      then (offset_bytes d) (0x00 ∷ functions) (SpellsOffset p d) (Byte 0x00 ▸ SpellsList SpellsU32 xs) (in_offset p d)
+      (then (0x00 ∷ []) functions (Byte 0x00) (SpellsList SpellsU32 xs) (exactly (0x00 ∷ [])) in_functions)
+
+  without_kind : NoLonger (offset_bytes d ++ functions) (SpellsOffset p d ▸ Byte 0x00 ▸ SpellsList SpellsU32 xs)
+  without_kind b h = omega (arith, with_kind b h, length-append (offset_bytes d) (0x00 ∷ functions), length-append (offset_bytes d) functions)
+
+  plain_element : (x : ℕ) → NoLonger (u32_bytes x ++ (offset_bytes d ++ functions)) (SpellsElements true (Some x) (SpellsOffset p d) xs)
+  plain_element x b (inl h) =
+      then (u32_bytes x) (offset_bytes d ++ functions) (SpellsU32 0) (SpellsOffset p d ▸ SpellsList SpellsU32 xs) (λ c k. number x c (subst (λ z. SpellsU32 z c) (sym h.0) k)) plainly b h.1
+  plain_element x b (inr (front, back, is, k, rest)) =
+      let l = then (u32_bytes x) (offset_bytes d ++ functions) (SpellsU32 x) (SpellsOffset p d ▸ Byte 0x00 ▸ SpellsList SpellsU32 xs) (number x) without_kind back rest in
+      omega (arith, ap length is, length-append front back, l)
+
+  flagged_element : (x : ℕ) → NoLonger (start_bytes true (Some x) ++ (offset_bytes d ++ (element_kind_bytes true (Some x) ++ functions))) (SpellsElements true (Some x) (SpellsOffset p d) xs)
+  flagged_element x b h = by (x == 0) refl h
+    where
+      by : (t : Bool) → (x == 0) ≡ t → SpellsElements true (Some x) (SpellsOffset p d) xs b
+          → length (cond t (u32_bytes 0) (0x02 ∷ u32_bytes x) ++ (offset_bytes d ++ (cond t [] (0x00 ∷ []) ++ functions))) ≤ length b
+      by true e h = subst (λ z. length (u32_bytes z ++ (offset_bytes d ++ functions)) ≤ length b) (eqb-true x 0 e) (plain_element x b h)
+      by false e (inl h) = let f : true ≡ false = subst (λ z. (z == 0) ≡ false) h.0 e in let g : ⊥ = cc f in absurd g
+      by false e (inr h) =
+          then (0x02 ∷ []) (u32_bytes x ++ (offset_bytes d ++ 0x00 ∷ functions)) (SpellsU32 2) (SpellsU32 x ▸ SpellsOffset p d ▸ Byte 0x00 ▸ SpellsList SpellsU32 xs) flag_two
+          (then (u32_bytes x) (offset_bytes d ++ 0x00 ∷ functions) (SpellsU32 x) (SpellsOffset p d ▸ Byte 0x00 ▸ SpellsList SpellsU32 xs) (number x) with_kind) b h
+
+elements : (p : Profile) (flagged read : Bool) → IsShort flagged read → (d : SegmentMode) (xs : List ℕ)
+    → NoLonger (start_bytes flagged (index_of d) ++ (offset_bytes d ++ (element_kind_bytes flagged (index_of d) ++ listed u32_bytes xs))) (SpellsElements read (index_of d) (SpellsOffset p d) xs)
+elements p flagged false s Passive xs b h = absurd h
+elements p false false s (Active x c) xs b h =
+    then (u32_bytes x) (offset_bytes (Active x c) ++ listed u32_bytes xs) (SpellsU32 x) (SpellsOffset p (Active x c) ▸ SpellsList SpellsU32 xs) (number x) (plainly p (Active x c) xs) b h
+elements p true false s (Active x c) xs b h = absurd (never s)
+  where
+    never : IsShort true false → ⊥
+    never (inl e) = cc e
+    never (inr e) = cc e
+elements p false true s Passive xs b h =
+    then (u32_bytes 1) (offset_bytes Passive ++ 0x00 ∷ listed u32_bytes xs) (SpellsU32 1) (SpellsOffset p Passive ▸ Byte 0x00 ▸ SpellsList SpellsU32 xs) (number 1) (with_kind p Passive xs) b h
+elements p true true s Passive xs b h =
+    then (u32_bytes 1) (offset_bytes Passive ++ 0x00 ∷ listed u32_bytes xs) (SpellsU32 1) (SpellsOffset p Passive ▸ Byte 0x00 ▸ SpellsList SpellsU32 xs) (number 1) (with_kind p Passive xs) b h
+elements p false true s (Active x c) xs b h = plain_element p (Active x c) xs x b h
+elements p true true s (Active x c) xs b h = flagged_element p (Active x c) xs x b h
+
+element : (flagged : Bool) (p : Profile) → IsShort flagged (has p BulkMemory) → (e : Element) → NoLonger (element_bytes flagged e) (SpellsElement p e)
+element flagged p short e = elements p flagged (has p BulkMemory) short e.mode e.functions
 
 run : (p : Profile) (r : ℕ × ValType) → NoLonger (run_bytes r) (SpellsRun p r)
 run p r b h = then (u32_bytes r.0) (value_type_bytes r.1) (SpellsU32 r.0) (SpellsValType r.1) (number r.0) (value_type r.1) b h.1
@@ -227,7 +335,7 @@ in_section : {X : Type 0} (id : ℕ) (f : X → List ℕ) (S : X → Form ℕ) �
 in_section id f S g xs b (inl (byte, back, is, p, (size, contents, e, h, k))) = omega (arith, list f S g xs contents k, unsigned_range 32 (length contents) size h)
 in_section id f S g xs b (inr h) = subst (λ z. length (listed f z) < 2 ^ 32) (sym h.0) (omega (arith, length-append (u32_bytes 0) [], short 5 0))
 
-pub spelled_fits : (p : Profile) (m : Module) (b : List ℕ) → SpellsModule p m b → Fits m
+pub spelled_fits : (p : Profile) (m : Module) (b : List ℕ) → SpellsModule p m b → FitsWith (has p BulkMemory) m
 spelled_fits p m b h =
     let s1 = h.4 in
     let s2 = s1.4.4 in
@@ -238,7 +346,7 @@ spelled_fits p m b h =
     let s7 = s6.4.4 in
     let s8 = s7.4.4 in
     let s9 = s8.4.4 in
-    let s10 = s9.4.4 in
+    let s10 = s9.4.4.4.4 in
     let s11 = s10.4.4 in
     record {
       types = in_section 1 signature_bytes SpellsSignature signature m.types _ s1.4.3;
@@ -248,9 +356,9 @@ spelled_fits p m b h =
       memories = in_section 5 limits_bytes SpellsLimits limits m.memories _ s5.4.3;
       globals = in_section 6 global_bytes (SpellsGlobal p) (defined p) m.globals _ s6.4.3;
       exports = in_section 7 export_bytes SpellsExport exported m.exports _ s7.4.3;
-      elements = in_section 9 element_bytes (SpellsElement p) (element p) m.elements _ s9.4.3;
+      elements = in_section 9 (element_bytes (has p BulkMemory)) (SpellsElement p) (element (has p BulkMemory) p (inr refl)) m.elements _ s9.4.3;
       codes = in_section 10 code_bytes (SpellsCode p) (code p) m.functions _ s10.4.3;
-      segments = in_section 11 segment_bytes (SpellsSegment p) (segment p) m.segments _ s11.4.3;
+      segments = in_section 11 (segment_bytes (has p BulkMemory)) (SpellsSegment p) (segment (has p BulkMemory) p (inr refl)) m.segments _ s11.4.3;
     }
 
 section : {X : Type 0} (id : ℕ) (f : X → List ℕ) (S : X → Form ℕ) → ((x : X) → NoLonger (f x) (S x)) → (xs : List X) → NoLonger (list_section id f xs) (ListSection id S xs)
@@ -261,11 +369,20 @@ section id f S g (x ∷ xs) b (inl (byte, back, is, p, (size, contents, e, h, k)
     let l = list f S g (x ∷ xs) contents k in
     omega (arith, ap length is, length-append byte back, ap length p, ap length e, length-append size contents, l, number (length contents) size h, number_rises (length whole) (length contents) l, length-append (u32_bytes (length whole)) whole)
 
-started : (start : Option ℕ) → NoLonger (start_section start) (StartSection start)
-started None b h = omega arith
-started (Some x) b (byte, back, is, p, (size, contents, e, h, k)) =
+-- a section that is one number
+one_number : (id x : ℕ) → NoLonger (id ∷ sized (u32_bytes x)) (Section id (SpellsU32 x))
+one_number id x b (byte, back, is, p, (size, contents, e, h, k)) =
     let l = number x contents k in
     omega (arith, ap length is, length-append byte back, ap length p, ap length e, length-append size contents, l, number (length contents) size h, number_rises (length (u32_bytes x)) (length contents) l, length-append (u32_bytes (length (u32_bytes x))) (u32_bytes x))
+
+started : (start : Option ℕ) → NoLonger (start_section start) (StartSection start)
+started None b h = omega arith
+started (Some x) b h = one_number 8 x b h
+
+counted : (p : Profile) (named : Bool) (n : ℕ) → NoLonger (data_count_section named n) (DataCountSection p named n)
+counted p false n b h = omega arith
+counted p true n b (inl h) = one_number 12 n b h.1
+counted p true n b (inr h) = absurd (let f : true ≡ false = h.0 in cc)
 
 -- A section after custom sections.
 after : (a : List ℕ) (P : Form ℕ) → NoLonger a P → NoLonger a (Customs ▸ P)
@@ -278,7 +395,7 @@ both a c P Q f g = after (a ++ c) (P ▸ Q) (then a c P Q f g)
 last : (a : List ℕ) (P : Form ℕ) → NoLonger a P → NoLonger a (Customs ▸ P ▸ Customs)
 last a P f b (front, back, is, p, (one, other, e, q, r)) = omega (arith, ap length is, length-append front back, ap length e, length-append one other, f one q)
 
-pub canon_shortest : (p : Profile) (m : Module) → NoLonger (canon m) (SpellsModule p m)
+pub canon_shortest : (p : Profile) (m : Module) → NoLonger (canon_with (has p BulkMemory) m) (SpellsModule p m)
 canon_shortest p m =
     then header _ (Exactly header) _ (exactly header)
     (both (list_section 1 signature_bytes m.types) _ (ListSection 1 SpellsSignature m.types) _ (section 1 signature_bytes SpellsSignature signature m.types)
@@ -289,9 +406,10 @@ canon_shortest p m =
     (both (list_section 6 global_bytes m.globals) _ (ListSection 6 (SpellsGlobal p) m.globals) _ (section 6 global_bytes (SpellsGlobal p) (defined p) m.globals)
     (both (list_section 7 export_bytes m.exports) _ (ListSection 7 SpellsExport m.exports) _ (section 7 export_bytes SpellsExport exported m.exports)
     (both (start_section m.start) _ (StartSection m.start) _ (started m.start)
-    (both (list_section 9 element_bytes m.elements) _ (ListSection 9 (SpellsElement p) m.elements) _ (section 9 element_bytes (SpellsElement p) (element p) m.elements)
+    (both (list_section 9 (element_bytes (has p BulkMemory)) m.elements) _ (ListSection 9 (SpellsElement p) m.elements) _ (section 9 (element_bytes (has p BulkMemory)) (SpellsElement p) (element (has p BulkMemory) p (inr refl)) m.elements)
+    (both (data_count_section (bodies_name_segment m.functions) (length m.segments)) _ (DataCountSection p (bodies_name_segment m.functions) (length m.segments)) _ (counted p (bodies_name_segment m.functions) (length m.segments))
     (both (list_section 10 code_bytes m.functions) _ (ListSection 10 (SpellsCode p) m.functions) _ (section 10 code_bytes (SpellsCode p) (code p) m.functions)
-    (last (list_section 11 segment_bytes m.segments) (ListSection 11 (SpellsSegment p) m.segments) (section 11 segment_bytes (SpellsSegment p) (segment p) m.segments))))))))))))
+    (last (list_section 11 (segment_bytes (has p BulkMemory)) m.segments) (ListSection 11 (SpellsSegment p) m.segments) (section 11 (segment_bytes (has p BulkMemory)) (SpellsSegment p) (segment (has p BulkMemory) p (inr refl)) m.segments)))))))))))))
 
 pub shortest_sections : (m : Module) → HasShortestSections m
 shortest_sections m = record {
@@ -303,7 +421,8 @@ shortest_sections m = record {
   globals = λ p. list global_bytes (SpellsGlobal p) (defined p) m.globals;
   exports = list export_bytes SpellsExport exported m.exports;
   start = λ x is. number x;
-  elements = λ p. list element_bytes (SpellsElement p) (element p) m.elements;
+  elements = λ p. list (element_bytes false) (SpellsElement p) (element false p (inl refl)) m.elements;
+  data_count = number (length m.segments);
   codes = λ p. list code_bytes (SpellsCode p) (code p) m.functions;
-  segments = λ p. list segment_bytes (SpellsSegment p) (segment p) m.segments;
+  segments = λ p. list (segment_bytes false) (SpellsSegment p) (segment false p (inl refl)) m.segments;
 }

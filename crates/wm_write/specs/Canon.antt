@@ -1,5 +1,6 @@
 -- The canonical binary of a module (Core spec 5.5). Numbers have the fewest bytes, and locals are in maximal runs of
--- one type. The binary has no empty section, no custom section, and no else before an empty second branch.
+-- one type. The binary has no empty section, no custom section, and no else before an empty second branch. It has a data
+-- count section exactly if a body names a data segment.
 use Rattle.std.specs.Prelude.{ℕ, ◌≡◌, ◌<◌, ◌≤◌, ◌^◌, List, [], ◌∷◌, ◌++◌, Option, Some, None, Bool, true}
 use Rattle.std.specs.Prelude.{false, ℤ, length, flat_map, nat_lt, ◌-◌, if◌then◌else◌}
 use Rattle.wm_machine.specs.Sections.{header, kind_byte, SpellsImport, SpellsGlobal, SpellsExport}
@@ -7,7 +8,13 @@ use Rattle.wm_machine.specs.Sections.{SpellsElement, SpellsCode, SpellsSegment}
 use Rattle.wm_syntax.specs.Instructions.{ops_of}
 use Rattle.wm_syntax.specs.Encodings.{float_bytes}
 use Rattle.wm_syntax.specs.Leb128.{signed_bytes, unsigned_bytes}
-use Rattle.wm_syntax.specs.Modules.{Import, Function, GlobalDef, Export, Element, Segment, Module, constant}
+use Rattle.wm_syntax.specs.Modules.{Import, Function, GlobalDef, Export, Element, Segment, Module, constant, index_of, bodies_name_segment}
+use Rattle.wm_syntax.specs.Profiles.{has}
+use Rattle.wm_syntax.specs.declared.modules.SegmentMode.TheVariants.{Passive, Active}
+use Rattle.wm_syntax.specs.declared.modules.SegmentMode.{SegmentMode}
+use Rattle.wm_syntax.specs.declared.profile.Feature.TheVariants.{BulkMemory}
+use Rattle.std.specs.Prelude.{◌==◌, ◌||◌}
+use Rattle.std.specs.List.{list_any}
 use Rattle.wm_syntax.specs.Opcodes.{opcode}
 use Rattle.wm_syntax.specs.Runs.{runs_of}
 use Rattle.wm_syntax.specs.Spelling.{Form}
@@ -18,7 +25,8 @@ use Rattle.wm_syntax.specs.declared.instructions.Op.{Op}
 use Rattle.wm_syntax.specs.declared.instructions.Simple.TheVariants.{Br, BrIf, Call, CallIndirect, LocalGet}
 use Rattle.wm_syntax.specs.declared.instructions.Simple.TheVariants.{LocalSet, LocalTee, GlobalGet, GlobalSet}
 use Rattle.wm_syntax.specs.declared.instructions.Simple.TheVariants.{MemorySize, MemoryGrow, I32Const}
-use Rattle.wm_syntax.specs.declared.instructions.Simple.TheVariants.{MemoryCopy, MemoryFill}
+use Rattle.wm_syntax.specs.declared.instructions.Simple.TheVariants.{MemoryCopy, MemoryFill, MemoryInit, DataDrop}
+use Rattle.wm_syntax.specs.declared.instructions.Simple.TheVariants.{TableInit, ElemDrop, TableCopy}
 use Rattle.wm_syntax.specs.declared.instructions.Simple.TheVariants.{I64Const, F32Const, F64Const}
 use Rattle.wm_syntax.specs.declared.instructions.Simple.TheVariants.{Load, Store}
 use Rattle.wm_syntax.specs.declared.instructions.Simple.{Simple}
@@ -44,7 +52,7 @@ s64_bytes z = signed_bytes 10 z
 abbrev pub opcode_bytes : ℕ → List ℕ
 opcode_bytes c = if nat_lt c 0x100 then c ∷ [] else 0xFC ∷ u32_bytes (c - 0x100)
 
--- The bytes after the code of an instruction (Core spec 5.4.1 to 5.4.5, WebAssembly 2.0 5.4.6).
+-- The bytes after the code of an instruction (Core spec 5.4.1 to 5.4.5, WebAssembly 2.0 5.4.5 and 5.4.6).
 abbrev pub immediates : Simple → List ℕ
 immediates (Br l) = u32_bytes l
 immediates (BrIf l) = u32_bytes l
@@ -59,6 +67,11 @@ immediates MemorySize = 0x00 ∷ []
 immediates MemoryGrow = 0x00 ∷ []
 immediates MemoryCopy = 0x00 ∷ 0x00 ∷ []
 immediates MemoryFill = 0x00 ∷ []
+immediates (MemoryInit x) = u32_bytes x ++ 0x00 ∷ []
+immediates (DataDrop x) = u32_bytes x
+immediates (TableInit x) = u32_bytes x ++ 0x00 ∷ []
+immediates (ElemDrop x) = u32_bytes x
+immediates TableCopy = 0x00 ∷ 0x00 ∷ []
 immediates (I32Const n) = s32_bytes n
 immediates (I64Const n) = s64_bytes n
 immediates (F32Const n) = float_bytes 4 n
@@ -140,9 +153,32 @@ global_bytes g = global_type_bytes g.ty ++ constant_bytes g.init
 abbrev pub export_bytes : Export → List ℕ
 export_bytes e = sized e.name ++ kind_byte e.kind ∷ u32_bytes e.index
 
--- An element segment (Core spec 5.5.12).
-abbrev pub element_bytes : Element → List ℕ
-element_bytes e = u32_bytes e.table ++ (constant_bytes e.offset ++ listed u32_bytes e.functions)
+-- The front of a segment, given the index of its table or memory, or none if it is passive. Without flags it is this
+-- index (Core spec 5.5.12, 5.5.14). With flags it is 0 for an active segment of the index 0, 1 for a passive one, and 2
+-- with the index for any other (WebAssembly 2.0, 5.5.12, 5.5.14). A passive one has its flag in both forms.
+abbrev pub start_bytes : (flagged : Bool) → Option ℕ → List ℕ
+start_bytes false None = u32_bytes 1
+start_bytes false (Some x) = u32_bytes x
+start_bytes true None = u32_bytes 1
+start_bytes true (Some x) = if x == 0 then u32_bytes 0 else 0x02 ∷ u32_bytes x
+
+-- The offset of an active segment. A passive one has none.
+abbrev pub offset_bytes : SegmentMode → List ℕ
+offset_bytes Passive = []
+offset_bytes (Active x offset) = constant_bytes offset
+
+-- The element kind, which is 00 for functions. An element segment has it behind the flags 1 and 2 (WebAssembly 2.0, 5.5.12).
+abbrev pub element_kind_bytes : (flagged : Bool) → Option ℕ → List ℕ
+element_kind_bytes false None = 0x00 ∷ []
+element_kind_bytes false (Some x) = []
+element_kind_bytes true None = 0x00 ∷ []
+element_kind_bytes true (Some x) = if x == 0 then [] else 0x00 ∷ []
+
+-- An element segment (Core spec 5.5.12), without flags or with them.
+abbrev pub element_bytes : (flagged : Bool) → Element → List ℕ
+element_bytes flagged e =
+    start_bytes flagged (index_of e.mode)
+    ++ (offset_bytes e.mode ++ (element_kind_bytes flagged (index_of e.mode) ++ listed u32_bytes e.functions))
 
 -- A code entry (Core spec 5.5.13): its size in bytes, then its locals in maximal runs of one type, and its body.
 abbrev pub run_bytes : ℕ × ValType → List ℕ
@@ -154,9 +190,9 @@ code_contents f = listed run_bytes (runs_of f.locals) ++ (ops_bytes (ops_of f.bo
 abbrev pub code_bytes : Function → List ℕ
 code_bytes f = sized (code_contents f)
 
--- A data segment (Core spec 5.5.14).
-abbrev pub segment_bytes : Segment → List ℕ
-segment_bytes s = u32_bytes s.memory ++ (constant_bytes s.offset ++ sized s.bytes)
+-- A data segment (Core spec 5.5.14), without flags or with them.
+abbrev pub segment_bytes : (flagged : Bool) → Segment → List ℕ
+segment_bytes flagged s = start_bytes flagged (index_of s.mode) ++ (offset_bytes s.mode ++ sized s.bytes)
 
 -- A section: its id, the size of its contents, and its contents (Core spec 5.5.2). An empty list has no section.
 abbrev pub section : ℕ → List ℕ → List ℕ
@@ -171,9 +207,15 @@ abbrev pub start_section : Option ℕ → List ℕ
 start_section None = []
 start_section (Some x) = section 8 (u32_bytes x)
 
--- The canonical binary of a module: the header, then the sections in the order of their ids (Core spec 5.5.15).
-abbrev pub canon : Module → List ℕ
-canon m =
+-- The data count section of n data segments, omitted if no body names one (WebAssembly 2.0, 5.5.15 and 5.5.16).
+abbrev pub data_count_section : (named : Bool) → ℕ → List ℕ
+data_count_section false n = []
+data_count_section true n = section 12 (u32_bytes n)
+
+-- The header, then the sections in their order (Core spec 5.5.15, WebAssembly 2.0 5.5.16). The segments have flags, or
+-- none.
+abbrev pub canon_with : (flagged : Bool) → Module → List ℕ
+canon_with flagged m =
     header
     ++ (list_section 1 signature_bytes m.types
     ++ (list_section 2 import_bytes m.imports
@@ -183,16 +225,42 @@ canon m =
     ++ (list_section 6 global_bytes m.globals
     ++ (list_section 7 export_bytes m.exports
     ++ (start_section m.start
-    ++ (list_section 9 element_bytes m.elements
+    ++ (list_section 9 (element_bytes flagged) m.elements
+    ++ (data_count_section (bodies_name_segment m.functions) (length m.segments)
     ++ (list_section 10 code_bytes m.functions
-    ++ list_section 11 segment_bytes m.segments))))))))))
+    ++ list_section 11 (segment_bytes flagged) m.segments)))))))))))
+
+-- The canonical binary of a module.
+abbrev pub canon : Module → List ℕ
+canon m = canon_with false m
+
+-- Whether a module needs bulk memory for its segments: one of them is passive, or a body names a data segment.
+abbrev pub is_passive : SegmentMode → Bool
+is_passive Passive = true
+is_passive (Active x offset) = false
+
+abbrev pub has_passive : Module → Bool
+has_passive m = list_any (λ e. is_passive e.mode) m.elements || list_any (λ s. is_passive s.mode) m.segments
+
+abbrev pub needs_bulk : Module → Bool
+needs_bulk m = has_passive m || bodies_name_segment m.functions
+
+-- Whether a profile reads the segments of a module with flags. Only such a profile has a module that needs it.
+abbrev pub with_flags : Profile → Module → Bool
+with_flags p m = has p BulkMemory || needs_bulk m
+
+-- The canonical binary of a module as a profile reads it. It is `canon m`, except that an active segment of another table
+-- or memory than 0 has a flag before its index if the profile has bulk memory, or the module needs it. No module with
+-- such a segment is valid.
+abbrev pub canon_under : Profile → Module → List ℕ
+canon_under p m = canon_with (with_flags p m) m
 
 -- The contents of a list's section have fewer than 2^32 bytes, as their size is a u32 (Core spec 5.5.2).
 abbrev pub CanBeSized : {X : Type 0} → (X → List ℕ) → List X → Type 0
 CanBeSized f xs = length (listed f xs) < 2 ^ 32
 
 -- The contents of each section have fewer than 2^32 bytes.
-pub record Fits (m : Module) : Type 0 where
+pub record FitsWith (flagged : Bool) (m : Module) : Type 0 where
   pub types : CanBeSized signature_bytes m.types
   pub imports : CanBeSized import_bytes m.imports
   pub functions : CanBeSized (λ f. u32_bytes f.type_index) m.functions
@@ -200,9 +268,16 @@ pub record Fits (m : Module) : Type 0 where
   pub memories : CanBeSized limits_bytes m.memories
   pub globals : CanBeSized global_bytes m.globals
   pub exports : CanBeSized export_bytes m.exports
-  pub elements : CanBeSized element_bytes m.elements
+  pub elements : CanBeSized (element_bytes flagged) m.elements
   pub codes : CanBeSized code_bytes m.functions
-  pub segments : CanBeSized segment_bytes m.segments
+  pub segments : CanBeSized (segment_bytes flagged) m.segments
+
+-- The sections of `canon m` fit, and those of `canon_under p m`.
+abbrev pub Fits : Module → Type 0
+Fits m = FitsWith false m
+
+abbrev pub FitsUnder : Profile → Module → Type 0
+FitsUnder p m = FitsWith (with_flags p m) m
 
 -- The bytes a are no longer than any bytes that have the form P.
 abbrev pub NoLonger : List ℕ → Form ℕ → Type 0
@@ -212,7 +287,7 @@ NoLonger a P = (b : List ℕ) → P b → length a ≤ length b
 abbrev pub IsShortest : {X : Type 0} → (X → List ℕ) → (X → Form ℕ) → List X → Type 0
 IsShortest f S xs = NoLonger (listed f xs) (SpellsList S xs)
 
--- The contents of each section are no longer than any spelling of the same list or index, under each profile.
+-- The contents of each section are no longer than any spelling of the same list, index or number, under each profile.
 pub record HasShortestSections (m : Module) : Type 0 where
   pub types : IsShortest signature_bytes SpellsSignature m.types
   pub imports : IsShortest import_bytes SpellsImport m.imports
@@ -222,6 +297,7 @@ pub record HasShortestSections (m : Module) : Type 0 where
   pub globals : (p : Profile) → IsShortest global_bytes (SpellsGlobal p) m.globals
   pub exports : IsShortest export_bytes SpellsExport m.exports
   pub start : (x : ℕ) → m.start ≡ Some x → NoLonger (u32_bytes x) (SpellsU32 x)
-  pub elements : (p : Profile) → IsShortest element_bytes (SpellsElement p) m.elements
+  pub elements : (p : Profile) → IsShortest (element_bytes false) (SpellsElement p) m.elements
+  pub data_count : NoLonger (u32_bytes (length m.segments)) (SpellsU32 (length m.segments))
   pub codes : (p : Profile) → IsShortest code_bytes (SpellsCode p) m.functions
-  pub segments : (p : Profile) → IsShortest segment_bytes (SpellsSegment p) m.segments
+  pub segments : (p : Profile) → IsShortest (segment_bytes false) (SpellsSegment p) m.segments

@@ -1,6 +1,8 @@
 -- The printed text of a module (Core spec chapter 6). Each field is on a new line, and so is each instruction. The text
 -- is a list of words. A word is a token and the white space before it, so one definition gives the text and its tokens.
 use Rattle.std.specs.Prelude.{ℕ, ◌/◌, ◌%◌, ◌^◌, ◌&&◌, ◌==◌, not, List, [], ◌∷◌, ◌++◌, Bool, Option, Some}
+use Rattle.wm_syntax.specs.declared.modules.SegmentMode.TheVariants.{Passive, Active}
+use Rattle.wm_syntax.specs.declared.modules.SegmentMode.{SegmentMode}
 use Rattle.std.specs.Prelude.{None, codes, decimal, filter_map, flat_map, if◌then◌else◌, length, map, nat_le}
 use Rattle.std.specs.Fmt.{signed_decimal}
 use Rattle.std.specs.List.{enumerate_from}
@@ -14,7 +16,7 @@ use Rattle.wm_syntax.specs.declared.instructions.Simple.{Simple}
 use Rattle.wm_syntax.specs.declared.instructions.Simple.TheVariants.{Br, BrIf, Call, CallIndirect, LocalGet}
 use Rattle.wm_syntax.specs.declared.instructions.Simple.TheVariants.{LocalSet, LocalTee, GlobalGet, GlobalSet}
 use Rattle.wm_syntax.specs.declared.instructions.Simple.TheVariants.{I32Const, I64Const, F32Const, F64Const}
-use Rattle.wm_syntax.specs.declared.instructions.Simple.TheVariants.{Load, Store}
+use Rattle.wm_syntax.specs.declared.instructions.Simple.TheVariants.{Load, Store, MemoryInit, DataDrop, TableInit, ElemDrop}
 use Rattle.wm_syntax.specs.declared.instructions.Op.{Op}
 use Rattle.wm_syntax.specs.declared.instructions.Op.TheVariants as op
 use Rattle.wm_syntax.specs.declared.modules.ImportDesc.{ImportDesc}
@@ -168,6 +170,10 @@ immediate_words (LocalSet x) = number x ∷ []
 immediate_words (LocalTee x) = number x ∷ []
 immediate_words (GlobalGet x) = global_name x ∷ []
 immediate_words (GlobalSet x) = global_name x ∷ []
+immediate_words (MemoryInit x) = number x ∷ []
+immediate_words (DataDrop x) = number x ∷ []
+immediate_words (TableInit x) = number x ∷ []
+immediate_words (ElemDrop x) = number x ∷ []
 immediate_words (I32Const n) = spaced (signed_decimal n) ∷ []
 immediate_words (I64Const n) = spaced (signed_decimal n) ∷ []
 immediate_words (F32Const n) = spaced (float_text float.F32 n) ∷ []
@@ -272,15 +278,21 @@ abbrev pub start_field : Option ℕ → List Word
 start_field None = []
 start_field (Some x) = form field_line (codes "start") (function_name x ∷ [])
 
--- An element segment (Core spec 6.6.11) and a data segment (Core spec 6.6.12).
+-- An element segment (Core spec 6.6.11) and a data segment (Core spec 6.6.12). A passive one has no table or memory and no
+-- offset (WebAssembly 2.0, 6.6.11 and 6.6.12), and a passive element segment has its element kind.
+abbrev pub element_mode_words : SegmentMode → List Word
+element_mode_words Passive = spaced (codes "func") ∷ []
+element_mode_words (Active x offset) = table_name x ∷ offset_words offset
+
 abbrev pub element_field : Element → List Word
-element_field e =
-    form field_line (codes "elem") (table_name e.table ∷ offset_words e.offset
-    ++ map function_name e.functions)
+element_field e = form field_line (codes "elem") (element_mode_words e.mode ++ map function_name e.functions)
+
+abbrev pub data_mode_words : SegmentMode → List Word
+data_mode_words Passive = []
+data_mode_words (Active x offset) = memory_name x ∷ offset_words offset
 
 abbrev pub segment_field : Segment → List Word
-segment_field s =
-    form field_line (codes "data") (memory_name s.memory ∷ offset_words s.offset ++ quoted s.bytes ∷ [])
+segment_field s = form field_line (codes "data") (data_mode_words s.mode ++ quoted s.bytes ∷ [])
 
 -- The fields of a module in their order. Definitions are numbered after the imports of their kind.
 abbrev pub field_words : Module → List Word

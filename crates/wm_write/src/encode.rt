@@ -3,15 +3,17 @@
 ghost use Rattle.std.specs.Prelude.{◌≡◌, ◌≤◌, ◌↔◌, ℕ, Err, IfOk, length, take, false, true};
 ghost use Rattle.std.specs.Io.KnownBytes.{Appends};
 ghost use Rattle.wm_syntax.specs.Values.{value_of};
-ghost use Rattle.wm_write.specs.Canon.{Fits, canon};
+ghost use Rattle.wm_write.specs.Canon.{Fits, FitsWith, canon, canon_with};
 ghost use Rattle.wm_write.specs.exact.Measures.{Measures};
 ghost use Rattle.wm_write.specs.exact.Writing.{Sent};
 
 use crate::encode::parts::{
-    ElementEntry, ExportEntry, FunctionEntry, GlobalEntry, ImportEntry, MemoryEntry, SegmentEntry,
-    TableEntry, TypeEntry,
+    ExportEntry, FunctionEntry, GlobalEntry, ImportEntry, MemoryEntry, TableEntry, TypeEntry,
+    put_elements, put_segments,
 };
-use crate::encode::sections::{put_code_section, put_section, put_start_section};
+use crate::encode::sections::{
+    put_code_section, put_data_count_section, put_section, put_start_section,
+};
 use crate::encode::sizes::Sizes;
 use crate::put::put_bytes;
 use thiserror::Error;
@@ -49,11 +51,26 @@ pub fn encode<W: Dest>(m: &Module, w: &mut W) -> Result<u64, WriteFault>
     ensures untouched { result ≡ Err WriteFault.TooLarge → w.new ≡ w.old }
     ensures failed { ((n : ℕ) × (result ≡ Err (WriteFault.Io n))) ↔ (W.has_failed w.new ≡ true) }
 {
-    let Some(sizes) = Sizes::of(m) else {
+    encode_with(false, m, w)
+}
+
+/// As `encode`, with flags before segments or without them.
+pub(crate) fn encode_with<W: Dest>(flagged: bool, m: &Module, w: &mut W) -> Result<u64, WriteFault>
+    requires open { W.has_failed w.old ≡ false }
+    ensures written { IfOk result (λ n. (n ≡ length (canon_with flagged (value_of m.now)))
+        × Appends (W.contents w.old) (W.contents w.new) (canon_with flagged (value_of m.now))) }
+    ensures beginning { (n : ℕ) → result ≡ Err (WriteFault.Io n)
+        → (n ≤ length (canon_with flagged (value_of m.now)))
+        × Appends (W.contents w.old) (W.contents w.new) (take n (canon_with flagged (value_of m.now))) }
+    ensures too_large { (result ≡ Err WriteFault.TooLarge) ↔ (¬ FitsWith flagged (value_of m.now)) }
+    ensures untouched { result ≡ Err WriteFault.TooLarge → w.new ≡ w.old }
+    ensures failed { ((n : ℕ) × (result ≡ Err (WriteFault.Io n))) ↔ (W.has_failed w.new ≡ true) }
+{
+    let Some(sizes) = Sizes::of(flagged, m) else {
         return Err(WriteFault::TooLarge);
     };
     let mut written = 0;
-    put_module(w, &mut written, m, &sizes);
+    put_module(w, &mut written, flagged, m, &sizes);
     if w.failed() {
         Err(WriteFault::Io { written })
     } else {
@@ -62,10 +79,10 @@ pub fn encode<W: Dest>(m: &Module, w: &mut W) -> Result<u64, WriteFault>
 }
 
 // Writes a module, given the sizes of its sections.
-fn put_module<W: Dest>(w: &mut W, written: &mut u64, m: &Module, sizes: &Sizes)
-    requires measured { Measures sizes.now (value_of m.now) }
-    requires fits { Fits (value_of m.now) }
-    ensures { Sent (canon (value_of m.now)) (W.has_failed w.old, W.contents w.old, written.old)
+fn put_module<W: Dest>(w: &mut W, written: &mut u64, flagged: bool, m: &Module, sizes: &Sizes)
+    requires measured { Measures flagged sizes.now (value_of m.now) }
+    requires fits { FitsWith flagged (value_of m.now) }
+    ensures { Sent (canon_with flagged (value_of m.now)) (W.has_failed w.old, W.contents w.old, written.old)
         (W.has_failed w.new, W.contents w.new, written.new) }
 {
     put_bytes(w, written, b"\0asm\x01\0\0\0");
@@ -77,7 +94,8 @@ fn put_module<W: Dest>(w: &mut W, written: &mut u64, m: &Module, sizes: &Sizes)
     put_section::<GlobalEntry, W>(w, written, 6, sizes.globals, &m.globals);
     put_section::<ExportEntry, W>(w, written, 7, sizes.exports, &m.exports);
     put_start_section(w, written, m.start);
-    put_section::<ElementEntry, W>(w, written, 9, sizes.elements, &m.elements);
+    put_elements(w, written, flagged, sizes.elements, &m.elements);
+    put_data_count_section(w, written, &m.functions, &m.segments);
     put_code_section(w, written, sizes.codes, &m.functions);
-    put_section::<SegmentEntry, W>(w, written, 11, sizes.segments, &m.segments);
+    put_segments(w, written, flagged, sizes.segments, &m.segments);
 }

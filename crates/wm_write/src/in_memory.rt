@@ -3,11 +3,11 @@
 ghost use Rattle.std.specs.Prelude.{◌≡◌, ◌≢◌, ◌↔◌, [], Err, IfOk, false};
 ghost use Rattle.wm_rules.specs.inner.Loaders.{module_in};
 ghost use Rattle.wm_syntax.specs.Values.{value_of};
-ghost use Rattle.wm_write.specs.Canon.{Fits, canon};
+ghost use Rattle.wm_write.specs.Canon.{Fits, FitsWith, canon, canon_with};
 ghost use Rattle.wm_write.specs.Layout.{layout};
 ghost use Rattle.wm_write.specs.declared.in_memory.MakeFault.TheVariants as fault;
 
-use crate::encode::{WriteFault, encode};
+use crate::encode::{WriteFault, encode_with};
 use crate::print::print;
 use std::alloc::Global;
 use std::io;
@@ -80,8 +80,16 @@ pub fn encoded(alloc: Global, m: &Module) -> Result<Vec<u8>, MakeFault>
     ensures written { IfOk result (λ b. b.items ≡ canon (value_of m.now)) }
     ensures too_large { (result ≡ Err fault.TooLarge) ↔ (¬ Fits (value_of m.now)) }
 {
+    encoded_with(alloc, false, m)
+}
+
+/// As `encoded`, with flags before segments or without them.
+pub(crate) fn encoded_with(alloc: Global, flagged: bool, m: &Module) -> Result<Vec<u8>, MakeFault>
+    ensures written { IfOk result (λ b. b.items ≡ canon_with flagged (value_of m.now)) }
+    ensures too_large { (result ≡ Err fault.TooLarge) ↔ (¬ FitsWith flagged (value_of m.now)) }
+{
     let mut written = Bytes::new(alloc);
-    match encode(m, &mut written) {
+    match encode_with(flagged, m, &mut written) {
         Ok(_) => Ok(written.bytes),
         Err(WriteFault::TooLarge) => Err(MakeFault::TooLarge),
         Err(WriteFault::Io { written: _ }) => Err(MakeFault::Memory),

@@ -1,9 +1,9 @@
 //! Computes encoded lengths of constants, limits and import descriptors without encoding them.
 
 ghost use Rattle.std.specs.Prelude.{◌≡◌, ◌≤◌, length};
-ghost use Rattle.wm_write.specs.Canon.{constant_bytes, desc_bytes, limits_bytes};
+ghost use Rattle.wm_write.specs.Canon.{constant_bytes, desc_bytes, limits_bytes, offset_bytes};
 
-use wm_syntax::modules::ImportDesc;
+use wm_syntax::modules::{ImportDesc, SegmentMode};
 use wm_syntax::numbers::lengths::{number_len, signed_len};
 use wm_syntax::types::{Const, Limits};
 
@@ -18,6 +18,17 @@ pub(crate) fn constant_len(value: Const) -> u64
         Const::F32(_) => 6,
         Const::F64(_) => 10,
         Const::Global(index) => number_len(u64::from(index)) + 2,
+    }
+}
+
+/// The encoded length of the offset of an active segment, in bytes.
+pub(crate) fn offset_len(mode: SegmentMode) -> u64
+    ensures value { result ≡ length (offset_bytes mode) }
+    ensures short { result ≤ 12 }
+{
+    match mode {
+        SegmentMode::Passive => 0,
+        SegmentMode::Active { index: _, offset } => constant_len(offset),
     }
 }
 

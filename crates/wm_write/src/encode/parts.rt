@@ -1,15 +1,22 @@
 //! Encodes the members of sections (Core spec 5.5).
 
+ghost use Rattle.std.specs.Prelude.{◌≡◌, ◌∷◌, [], length, if◌then◌else◌};
+ghost use Rattle.wm_syntax.specs.Modules.{index_of};
+ghost use Rattle.wm_write.specs.Canon.{element_bytes, element_kind_bytes, list_section, listed, offset_bytes, segment_bytes};
+ghost use Rattle.wm_write.specs.exact.Writing.{Sent, capped};
+
 use crate::batch::Batch;
-use crate::encode::lengths::{constant_len, desc_len, limits_len};
+use crate::encode::lengths::{constant_len, desc_len, limits_len, offset_len};
+use crate::encode::sections::put_section;
 use crate::encode::spell::{
-    instruction_of, one, push_global_type, push_limits, push_op, spell_desc, spell_item, value_byte,
+    instruction_of, one, push_global_type, push_limits, push_op, spell_desc, spell_item,
+    spell_start, value_byte,
 };
 use crate::put::{Counted, Part, list_len, put_bytes, put_list, put_number, put_sized, sized_len};
 use wm_syntax::chunk::Chunk;
 use wm_syntax::instructions::Op;
 use wm_syntax::io::Dest;
-use wm_syntax::modules::{Element, Export, Function, GlobalDef, Import, Segment};
+use wm_syntax::modules::{Element, Export, Function, GlobalDef, Import, Segment, SegmentMode};
 use wm_syntax::numbers::lengths::number_len;
 use wm_syntax::types::{Const, FuncType, Limits, ValType};
 
@@ -247,54 +254,223 @@ impl Counted for ExportEntry {
     }
 }
 
-/// An element segment. Core spec 5.5.12.
+/// An element segment without a flag. Core spec 5.5.12.
 pub(crate) struct ElementEntry;
 
-#[tactic(auto, using(crate::proofs::Writes::sent_then))]
 impl Part for ElementEntry {
+    ghost use Rattle.std.specs.Prelude.{false};
     ghost use Rattle.wm_write.specs.Canon.{element_bytes};
 
     type Value = Element;
 
-    ghost bytes = { element_bytes };
+    ghost bytes = { element_bytes false };
 
     fn put<W: Dest>(w: &mut W, written: &mut u64, element: &Element) {
-        put_number(w, written, u64::from(element.table));
-        ConstantExpression::put(w, written, &element.offset);
-        put_list::<Index, W>(w, written, &element.functions);
+        put_element(w, written, false, element);
     }
 }
 
 impl Counted for ElementEntry {
     fn len(element: &Element) -> u64 {
-        list_len::<Index>(&element.functions)
-            .saturating_add(ConstantExpression::len(&element.offset))
-            .saturating_add(number_len(u64::from(element.table)))
+        element_len(false, element)
     }
 }
 
-/// A data segment. Core spec 5.5.14.
-pub(crate) struct SegmentEntry;
+/// An element segment with a flag. WebAssembly 2.0, 5.5.12.
+pub(crate) struct FlaggedElementEntry;
+
+impl Part for FlaggedElementEntry {
+    ghost use Rattle.std.specs.Prelude.{true};
+    ghost use Rattle.wm_write.specs.Canon.{element_bytes};
+
+    type Value = Element;
+
+    ghost bytes = { element_bytes true };
+
+    fn put<W: Dest>(w: &mut W, written: &mut u64, element: &Element) {
+        put_element(w, written, true, element);
+    }
+}
+
+impl Counted for FlaggedElementEntry {
+    fn len(element: &Element) -> u64 {
+        element_len(true, element)
+    }
+}
 
 #[tactic(auto, using(crate::proofs::Writes::sent_then))]
+fn put_element<W: Dest>(w: &mut W, written: &mut u64, flagged: bool, element: &Element)
+    ensures { Sent (element_bytes flagged element.now) (W.has_failed w.old, W.contents w.old, written.old)
+        (W.has_failed w.new, W.contents w.new, written.new) }
+{
+    put_bytes(w, written, spell_start(flagged, element.mode).as_slice());
+    put_offset(w, written, element.mode);
+    put_element_kind(w, written, flagged, element.mode);
+    put_list::<Index, W>(w, written, &element.functions);
+}
+
+fn element_len(flagged: bool, element: &Element) -> u64
+    ensures { result ≡ capped (length (element_bytes flagged element.now)) }
+{
+    let front = spell_start(flagged, element.mode).as_slice().len() as u64;
+    list_len::<Index>(&element.functions)
+        .saturating_add(u64::from(has_element_kind(flagged, element.mode)))
+        .saturating_add(offset_len(element.mode))
+        .saturating_add(front)
+}
+
+// Whether an element segment has an element kind: a passive one, and with flags one of another table than 0.
+fn has_element_kind(flagged: bool, mode: SegmentMode) -> bool
+    ensures { element_kind_bytes flagged (index_of mode) ≡ (if result then 0x00 ∷ [] else []) }
+{
+    match mode {
+        SegmentMode::Passive => true,
+        SegmentMode::Active { index, offset: _ } => flagged && index != 0,
+    }
+}
+
+// Writes the element kind of an element segment that has one.
+fn put_element_kind<W: Dest>(w: &mut W, written: &mut u64, flagged: bool, mode: SegmentMode)
+    ensures { Sent (element_kind_bytes flagged (index_of mode)) (W.has_failed w.old, W.contents w.old, written.old)
+        (W.has_failed w.new, W.contents w.new, written.new) }
+{
+    if has_element_kind(flagged, mode) {
+        put_bytes(w, written, b"\0");
+    }
+}
+
+/// A data segment without a flag. Core spec 5.5.14.
+pub(crate) struct SegmentEntry;
+
 impl Part for SegmentEntry {
+    ghost use Rattle.std.specs.Prelude.{false};
     ghost use Rattle.wm_write.specs.Canon.{segment_bytes};
 
     type Value = Segment;
 
-    ghost bytes = { segment_bytes };
+    ghost bytes = { segment_bytes false };
 
     fn put<W: Dest>(w: &mut W, written: &mut u64, segment: &Segment) {
-        put_number(w, written, u64::from(segment.memory));
-        ConstantExpression::put(w, written, &segment.offset);
-        put_sized(w, written, &segment.bytes);
+        put_segment(w, written, false, segment);
     }
 }
 
 impl Counted for SegmentEntry {
     fn len(segment: &Segment) -> u64 {
-        sized_len(&segment.bytes)
-            .saturating_add(ConstantExpression::len(&segment.offset))
-            .saturating_add(number_len(u64::from(segment.memory)))
+        segment_len(false, segment)
+    }
+}
+
+/// A data segment with a flag. WebAssembly 2.0, 5.5.14.
+pub(crate) struct FlaggedSegmentEntry;
+
+impl Part for FlaggedSegmentEntry {
+    ghost use Rattle.std.specs.Prelude.{true};
+    ghost use Rattle.wm_write.specs.Canon.{segment_bytes};
+
+    type Value = Segment;
+
+    ghost bytes = { segment_bytes true };
+
+    fn put<W: Dest>(w: &mut W, written: &mut u64, segment: &Segment) {
+        put_segment(w, written, true, segment);
+    }
+}
+
+impl Counted for FlaggedSegmentEntry {
+    fn len(segment: &Segment) -> u64 {
+        segment_len(true, segment)
+    }
+}
+
+#[tactic(auto, using(crate::proofs::Writes::sent_then))]
+fn put_segment<W: Dest>(w: &mut W, written: &mut u64, flagged: bool, segment: &Segment)
+    ensures { Sent (segment_bytes flagged segment.now) (W.has_failed w.old, W.contents w.old, written.old)
+        (W.has_failed w.new, W.contents w.new, written.new) }
+{
+    put_bytes(w, written, spell_start(flagged, segment.mode).as_slice());
+    put_offset(w, written, segment.mode);
+    put_sized(w, written, &segment.bytes);
+}
+
+fn segment_len(flagged: bool, segment: &Segment) -> u64
+    ensures { result ≡ capped (length (segment_bytes flagged segment.now)) }
+{
+    let front = spell_start(flagged, segment.mode).as_slice().len() as u64;
+    sized_len(&segment.bytes)
+        .saturating_add(offset_len(segment.mode))
+        .saturating_add(front)
+}
+
+// Writes the offset of an active segment.
+fn put_offset<W: Dest>(w: &mut W, written: &mut u64, mode: SegmentMode)
+    ensures { Sent (offset_bytes mode) (W.has_failed w.old, W.contents w.old, written.old)
+        (W.has_failed w.new, W.contents w.new, written.new) }
+{
+    match mode {
+        SegmentMode::Passive => {}
+        SegmentMode::Active { index: _, offset } => ConstantExpression::put(w, written, &offset),
+    }
+}
+
+/// Writes the element section, unless there are no element segments.
+pub(crate) fn put_elements<W: Dest>(
+    w: &mut W,
+    written: &mut u64,
+    flagged: bool,
+    size: u64,
+    elements: &[Element],
+)
+    requires { size ≡ length (listed (element_bytes flagged) elements.now) }
+    ensures { Sent (list_section 9 (element_bytes flagged) elements.now)
+        (W.has_failed w.old, W.contents w.old, written.old)
+        (W.has_failed w.new, W.contents w.new, written.new) }
+{
+    if flagged {
+        put_section::<FlaggedElementEntry, W>(w, written, 9, size, elements);
+    } else {
+        put_section::<ElementEntry, W>(w, written, 9, size, elements);
+    }
+}
+
+/// The number of bytes of the element section's contents, at most 2^64 - 1.
+pub(crate) fn elements_len(flagged: bool, elements: &[Element]) -> u64
+    ensures { result ≡ capped (length (listed (element_bytes flagged) elements.now)) }
+{
+    if flagged {
+        list_len::<FlaggedElementEntry>(elements)
+    } else {
+        list_len::<ElementEntry>(elements)
+    }
+}
+
+/// Writes the data section, unless there are no data segments.
+pub(crate) fn put_segments<W: Dest>(
+    w: &mut W,
+    written: &mut u64,
+    flagged: bool,
+    size: u64,
+    segments: &[Segment],
+)
+    requires { size ≡ length (listed (segment_bytes flagged) segments.now) }
+    ensures { Sent (list_section 11 (segment_bytes flagged) segments.now)
+        (W.has_failed w.old, W.contents w.old, written.old)
+        (W.has_failed w.new, W.contents w.new, written.new) }
+{
+    if flagged {
+        put_section::<FlaggedSegmentEntry, W>(w, written, 11, size, segments);
+    } else {
+        put_section::<SegmentEntry, W>(w, written, 11, size, segments);
+    }
+}
+
+/// The number of bytes of the data section's contents, at most 2^64 - 1.
+pub(crate) fn segments_len(flagged: bool, segments: &[Segment]) -> u64
+    ensures { result ≡ capped (length (listed (segment_bytes flagged) segments.now)) }
+{
+    if flagged {
+        list_len::<FlaggedSegmentEntry>(segments)
+    } else {
+        list_len::<SegmentEntry>(segments)
     }
 }

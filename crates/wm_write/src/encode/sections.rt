@@ -1,14 +1,16 @@
 //! Writes sections (Core spec 5.5.2).
 
 ghost use Rattle.std.specs.Prelude.{◌≡◌, ◌<◌, ◌^◌, ◌∷◌, length};
-ghost use Rattle.wm_write.specs.Canon.{code_bytes, list_section, listed, start_section, u32_bytes};
+ghost use Rattle.wm_syntax.specs.Modules.{bodies_name_segment};
+ghost use Rattle.wm_write.specs.Canon.{code_bytes, data_count_section, list_section, listed, start_section};
+ghost use Rattle.wm_write.specs.Canon.{u32_bytes};
 ghost use Rattle.wm_write.specs.exact.Writing.{Sent};
 
 use crate::encode::code::put_codes;
 use crate::encode::spell::{number, one};
 use crate::put::{Part, put_bytes, put_list};
 use wm_syntax::io::Dest;
-use wm_syntax::modules::Function;
+use wm_syntax::modules::{Function, Segment};
 
 /// Writes the section of a list, unless the list is empty. `size` is the length of the section's contents, in bytes.
 pub(crate) fn put_section<P: Part, W: Dest>(
@@ -60,6 +62,34 @@ pub(crate) fn put_start_section<W: Dest>(w: &mut W, written: &mut u64, start: Op
     let index = number(u64::from(index));
     put_head(w, written, 8, index.as_slice().len() as u64);
     put_bytes(w, written, index.as_slice());
+}
+
+/// Writes the data count section, if a body names one of the data segments. WebAssembly 2.0, 5.5.15 and 5.5.16.
+pub(crate) fn put_data_count_section<W: Dest>(
+    w: &mut W,
+    written: &mut u64,
+    functions: &[Function],
+    segments: &[Segment],
+)
+    ensures { Sent (data_count_section (bodies_name_segment functions.now) (length segments.now))
+        (W.has_failed w.old, W.contents w.old, written.old)
+        (W.has_failed w.new, W.contents w.new, written.new) }
+{
+    if !name_segment(functions) {
+        return;
+    }
+    let count = number(segments.len() as u64);
+    put_head(w, written, 12, count.as_slice().len() as u64);
+    put_bytes(w, written, count.as_slice());
+}
+
+/// Whether the body of a function names a data segment. It was found while the body was built.
+pub(crate) fn name_segment(functions: &[Function]) -> bool
+    ensures { result ≡ bodies_name_segment functions.now }
+{
+    functions
+        .iter()
+        .any(|function| function.body.names_segment())
 }
 
 // Writes a section header: the id and the size of the contents.

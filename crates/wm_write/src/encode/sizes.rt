@@ -2,12 +2,12 @@
 
 ghost use Rattle.std.specs.Prelude.{◌<◌, ◌^◌, ◌↔◌, IfSome, IsSome, IsTrue};
 ghost use Rattle.wm_syntax.specs.Values.{value_of};
-ghost use Rattle.wm_write.specs.Canon.{Fits};
+ghost use Rattle.wm_write.specs.Canon.{FitsWith};
 
 use crate::encode::code::codes_len;
 use crate::encode::parts::{
-    ElementEntry, ExportEntry, FunctionEntry, GlobalEntry, ImportEntry, MemoryEntry, SegmentEntry,
-    TableEntry, TypeEntry,
+    ExportEntry, FunctionEntry, GlobalEntry, ImportEntry, MemoryEntry, TableEntry, TypeEntry,
+    elements_len, segments_len,
 };
 use crate::put::list_len;
 use wm_syntax::modules::Module;
@@ -31,9 +31,9 @@ impl Sizes {
     ghost use Rattle.wm_write.specs.exact.Measures.{Measures};
 
     /// Returns the sizes of a module's sections. `None` if and only if one is 2^32 or more.
-    pub(crate) fn of(m: &Module) -> Option<Self>
-        ensures fits { IsSome result ↔ Fits (value_of m.now) }
-        ensures measured { IfSome result (λ s. Measures s (value_of m.now)) }
+    pub(crate) fn of(flagged: bool, m: &Module) -> Option<Self>
+        ensures fits { IsSome result ↔ FitsWith flagged (value_of m.now) }
+        ensures measured { IfSome result (λ s. Measures flagged s (value_of m.now)) }
     {
         let sizes = Sizes {
             types: list_len::<TypeEntry>(&m.types),
@@ -43,9 +43,9 @@ impl Sizes {
             memories: list_len::<MemoryEntry>(&m.memories),
             globals: list_len::<GlobalEntry>(&m.globals),
             exports: list_len::<ExportEntry>(&m.exports),
-            elements: list_len::<ElementEntry>(&m.elements),
+            elements: elements_len(flagged, &m.elements),
             codes: codes_len(&m.functions),
-            segments: list_len::<SegmentEntry>(&m.segments),
+            segments: segments_len(flagged, &m.segments),
         };
         if sizes.fit() { Some(sizes) } else { None }
     }

@@ -2,12 +2,12 @@
 
 ghost use Rattle.std.specs.Prelude.{◌≡◌, ◌++◌, ◌∷◌, [], length, ◌≤◌, ◌+◌, pos};
 ghost use Rattle.wm_write.specs.Canon.{desc_bytes, global_type_bytes, limits_bytes, immediates};
-ghost use Rattle.wm_write.specs.Canon.{op_bytes, u32_bytes};
+ghost use Rattle.wm_write.specs.Canon.{start_bytes, op_bytes, u32_bytes};
 ghost use Rattle.wm_machine.specs.Sections.{kind_byte};
 ghost use Rattle.wm_syntax.specs.declared.instructions.Op.{Op};
 ghost use Rattle.wm_syntax.specs.Encodings.{float_bytes};
 ghost use Rattle.wm_syntax.specs.Leb128.{signed_bytes};
-ghost use Rattle.wm_syntax.specs.Modules.{constant};
+ghost use Rattle.wm_syntax.specs.Modules.{constant, index_of};
 ghost use Rattle.wm_syntax.specs.Opcodes.{opcode};
 ghost use Rattle.wm_syntax.specs.Types.{block_byte, type_byte};
 
@@ -15,7 +15,7 @@ use crate::batch::Batch;
 use wm_syntax::chunk::Chunk;
 use wm_syntax::instructions::opcodes::code;
 use wm_syntax::instructions::{Numeric, Op, Simple};
-use wm_syntax::modules::{ExportKind, ImportDesc};
+use wm_syntax::modules::{ExportKind, ImportDesc, SegmentMode};
 use wm_syntax::types::{Const, GlobalType, Limits, ValType};
 
 /// Returns the byte of a value type. Core spec 5.3.1.
@@ -181,13 +181,15 @@ fn push_immediates(batch: &mut Batch, simple: Simple)
         | Simple::LocalSet(index)
         | Simple::LocalTee(index)
         | Simple::GlobalGet(index)
-        | Simple::GlobalSet(index) => push_number(batch, index),
-        Simple::CallIndirect(index) => {
+        | Simple::GlobalSet(index)
+        | Simple::DataDrop(index)
+        | Simple::ElemDrop(index) => push_number(batch, index),
+        Simple::CallIndirect(index) | Simple::MemoryInit(index) | Simple::TableInit(index) => {
             push_number(batch, index);
             batch.push_byte(0x00);
         }
         Simple::MemorySize | Simple::MemoryGrow | Simple::MemoryFill => batch.push_byte(0x00),
-        Simple::MemoryCopy => batch.push_two(0x00, 0x00),
+        Simple::MemoryCopy | Simple::TableCopy => batch.push_two(0x00, 0x00),
         Simple::I32Const(value) => push_signed(batch, i64::from(value), 5),
         Simple::I64Const(value) => push_signed(batch, value, 10),
         Simple::F32Const(bits) => push_float(batch, u64::from(bits), 4),
@@ -239,7 +241,7 @@ fn push_rare(batch: &mut Batch, simple: Simple)
     }
 }
 
-// Appends an instruction behind the prefix FC, whose code this is: at most four bytes.
+// Appends an instruction behind the prefix FC, whose code this is: at most eight bytes.
 fn push_prefixed(batch: &mut Batch, code: u16, simple: Simple)
     requires room { length batch.old + 11 ≤ 64 }
     requires prefixed { 0x100 ≤ code }
@@ -249,8 +251,13 @@ fn push_prefixed(batch: &mut Batch, code: u16, simple: Simple)
 {
     batch.push_two(0xFC, (code - 0x100) as u8);
     match simple {
-        Simple::MemoryCopy => batch.push_two(0x00, 0x00),
+        Simple::MemoryCopy | Simple::TableCopy => batch.push_two(0x00, 0x00),
         Simple::MemoryFill => batch.push_byte(0x00),
+        Simple::MemoryInit(index) | Simple::TableInit(index) => {
+            push_number(batch, index);
+            batch.push_byte(0x00);
+        }
+        Simple::DataDrop(index) | Simple::ElemDrop(index) => push_number(batch, index),
         _ => {}
     }
 }
@@ -386,6 +393,19 @@ pub(crate) fn spell_item(kind: ExportKind, index: u32) -> Chunk
     ensures { result ≡ kind_byte kind ∷ u32_bytes index }
 {
     with_number(kind_byte(kind), index)
+}
+
+/// Returns the front of a segment, without flags or with them.
+pub(crate) fn spell_start(flagged: bool, mode: SegmentMode) -> Chunk
+    ensures { result ≡ start_bytes flagged (index_of mode) }
+{
+    match mode {
+        SegmentMode::Passive => number(1),
+        SegmentMode::Active { index, offset: _ } if !flagged || index == 0 => {
+            number(u64::from(index))
+        }
+        SegmentMode::Active { index, offset: _ } => with_number(0x02, index),
+    }
 }
 
 /// Returns the bytes of a run of locals of one type. Core spec 5.5.13.

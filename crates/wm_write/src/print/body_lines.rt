@@ -112,7 +112,11 @@ fn push_immediates(line: &mut Batch, simple: &Simple)
         | Simple::BrIf(index)
         | Simple::LocalGet(index)
         | Simple::LocalSet(index)
-        | Simple::LocalTee(index) => line.push_index(b" ", *index),
+        | Simple::LocalTee(index)
+        | Simple::MemoryInit(index)
+        | Simple::DataDrop(index)
+        | Simple::TableInit(index)
+        | Simple::ElemDrop(index) => line.push_index(b" ", *index),
         Simple::Call(index) => line.push_index(b" $f", *index),
         Simple::CallIndirect(index) => push_type_use(line, *index),
         Simple::GlobalGet(index) | Simple::GlobalSet(index) => line.push_index(b" $g", *index),

@@ -1,9 +1,10 @@
 //! Prints the fields of a module, each on a new line (Core spec 6.6).
 
-ghost use Rattle.std.specs.Prelude.{◌≡◌, ℕ, Bool, IsTrue, List, [], flat_map};
+ghost use Rattle.std.specs.Prelude.{◌≡◌, ◌++◌, ◌∷◌, ℕ, Bool, IsTrue, List, [], codes, flat_map};
 ghost use Rattle.std.specs.List.{enumerate_from, list_all};
-ghost use Rattle.wm_write.specs.Layout.{Word, desc_words, import_field, import_fields, item_words};
-ghost use Rattle.wm_write.specs.Layout.{offset_words, places, start_field, words_text};
+ghost use Rattle.wm_write.specs.Layout.{Word, desc_words, field_line, import_field, import_fields};
+ghost use Rattle.wm_write.specs.Layout.{item_words, data_mode_words, offset_words, places, start_field};
+ghost use Rattle.wm_write.specs.Layout.{element_mode_words, words_text};
 ghost use Rattle.wm_write.specs.exact.Printing.{item_front};
 ghost use Rattle.wm_write.specs.exact.Writing.{Sent};
 
@@ -14,7 +15,7 @@ use crate::print::tokens::{
 use crate::put::{Part, put_bytes, put_each};
 use wm_syntax::io::Dest;
 use wm_syntax::modules::{
-    Element, Export, ExportKind, Function, GlobalDef, Import, ImportDesc, Segment,
+    Element, Export, ExportKind, Function, GlobalDef, Import, ImportDesc, Segment, SegmentMode,
 };
 use wm_syntax::types::{Const, FuncType, Limits};
 
@@ -331,6 +332,21 @@ impl Part for FunctionName {
     }
 }
 
+// Writes the front of an element segment: the table and the offset of an active one, the element kind of a passive one.
+fn put_element_front<W: Dest>(w: &mut W, written: &mut u64, mode: SegmentMode)
+    ensures { Sent ((field_line ++ 40 ∷ codes "elem") ++ words_text (element_mode_words mode))
+        (W.has_failed w.old, W.contents w.old, written.old)
+        (W.has_failed w.new, W.contents w.new, written.new) }
+{
+    match mode {
+        SegmentMode::Passive => put_bytes(w, written, b"\n  (elem func"),
+        SegmentMode::Active { index, offset } => {
+            put_counted(w, written, b"\n  (elem $tab", index);
+            put_offset(w, written, offset);
+        }
+    }
+}
+
 /// An element segment.
 pub(crate) struct ElementField;
 
@@ -342,10 +358,24 @@ impl Part for ElementField {
     ghost bytes = { λ e. words_text (element_field e) };
 
     fn put<W: Dest>(w: &mut W, written: &mut u64, element: &Element) {
-        put_counted(w, written, b"\n  (elem $tab", element.table);
-        put_offset(w, written, element.offset);
+        put_element_front(w, written, element.mode);
         put_each::<FunctionName, W>(w, written, &element.functions);
         put_bytes(w, written, b")");
+    }
+}
+
+// Writes the front of a data segment, with the memory and the offset of an active one.
+fn put_data_front<W: Dest>(w: &mut W, written: &mut u64, mode: SegmentMode)
+    ensures { Sent ((field_line ++ 40 ∷ codes "data") ++ words_text (data_mode_words mode))
+        (W.has_failed w.old, W.contents w.old, written.old)
+        (W.has_failed w.new, W.contents w.new, written.new) }
+{
+    match mode {
+        SegmentMode::Passive => put_bytes(w, written, b"\n  (data"),
+        SegmentMode::Active { index, offset } => {
+            put_counted(w, written, b"\n  (data $mem", index);
+            put_offset(w, written, offset);
+        }
     }
 }
 
@@ -360,8 +390,7 @@ impl Part for SegmentField {
     ghost bytes = { λ s. words_text (segment_field s) };
 
     fn put<W: Dest>(w: &mut W, written: &mut u64, segment: &Segment) {
-        put_counted(w, written, b"\n  (data $mem", segment.memory);
-        put_offset(w, written, segment.offset);
+        put_data_front(w, written, segment.mode);
         put_string(w, written, &segment.bytes);
         put_bytes(w, written, b")");
     }

@@ -1,5 +1,5 @@
 use Rattle.wm_write.specs.Canon.{code_bytes, element_bytes, export_bytes, global_bytes, import_bytes, limits_bytes, segment_bytes, signature_bytes, table_bytes, u32_bytes}
-use Rattle.wm_write.proofs.SectionLemmas.{at_section}
+use Rattle.wm_write.proofs.SectionLemmas.{at_count, at_section}
 use Rattle.wm_write.proofs.Writes.{sent_then}
 use Rattle.wm_write.proofs.encode.put_module.Goals as goal
 
@@ -14,6 +14,7 @@ returns g c =
     (sent_then _ _ _ _ _ (at_section 6 global_bytes _ c.args.m.now.globals.items _ _ c.deref-6.ensures.value c.put_section-6.ensures)
     (sent_then _ _ _ _ _ (at_section 7 export_bytes _ c.args.m.now.exports.items _ _ c.deref-7.ensures.value c.put_section-7.ensures)
     (sent_then _ _ _ _ _ c.put_start_section.ensures
-    (sent_then _ _ _ _ _ (at_section 9 element_bytes _ c.args.m.now.elements.items _ _ c.deref-8.ensures.value c.put_section-8.ensures)
-    (sent_then _ _ _ _ _ (at_section 10 code_bytes _ c.args.m.now.functions.items _ _ c.deref-9.ensures.value c.put_code_section.ensures)
-    (at_section 11 segment_bytes _ c.args.m.now.segments.items _ _ c.deref-10.ensures.value c.put_section-9.ensures)))))))))))
+    (sent_then _ _ _ _ _ (at_section 9 (element_bytes c.args.flagged) _ c.args.m.now.elements.items _ _ c.deref-8.ensures.value c.put_elements.ensures)
+    (sent_then _ _ _ _ _ (at_count _ c.args.m.now.functions.items _ c.args.m.now.segments.items _ _ c.deref-9.ensures.value c.deref-10.ensures.value c.put_data_count_section.ensures)
+    (sent_then _ _ _ _ _ (at_section 10 code_bytes _ c.args.m.now.functions.items _ _ c.deref-11.ensures.value c.put_code_section.ensures)
+    (at_section 11 (segment_bytes c.args.flagged) _ c.args.m.now.segments.items _ _ c.deref-12.ensures.value c.put_segments.ensures))))))))))))
