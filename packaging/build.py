@@ -7,8 +7,9 @@ gets one process. It gets more while processors are free and each process saves 
 of all that its crate reaches. There are never more processes than processors, nor more than fit into the free memory. The first crate
 that fails stops the others.
 
-`rt` runs one command at a time on a crate and those below it, in one copy of the sources. But the copies on a machine share what is
-proved and built. This script therefore builds each crate in a copy of its own, below out/. Only the requested crates are built here.
+`rt` runs one command at a time on a crate and those below it, in one copy of the sources. But with most kits the copies on a machine
+share what is proved and built. This script therefore builds each crate in a copy of its own, below out/. Only the requested crates are
+built here. With a kit of OWN_COPIES, each copy would prove all crates below anew: then all crates are built here, in turn.
 """
 import os
 import pathlib
@@ -26,6 +27,8 @@ MEMORY = 2_000_000_000
 LEAST_GAIN = 0.25
 # the exit status for a crate that cannot be built
 FAILED = 70
+# the kits with which copies of the sources share nothing
+OWN_COPIES = ("rattle-kit-13b",)
 
 # For each crate, the minutes that several processes share, and the minutes that each process needs anyway: to load the crates below,
 # and to build. Only the proportions matter: they order the crates and give the time left.
@@ -88,6 +91,12 @@ def processes_at_once():
     return max(1, min(len(os.sched_getaffinity(0)), free // MEMORY))
 
 
+def copies_share():
+    """Whether copies of the sources on this machine share what is proved and built."""
+    said = subprocess.run(["rt", "version"], stdin=subprocess.DEVNULL, capture_output=True, text=True, check=False)
+    return said.stdout.split(" ")[0] not in OWN_COPIES
+
+
 def planned(crate, processes):
     """Returns the minutes that a crate is expected to take with so many processes."""
     shared, fixed = MINUTES.get(crate, UNKNOWN)
@@ -102,16 +111,18 @@ def gain(crate, processes):
 class Plan:
     """The crates that wait, run and are done, and the choice of those that start next."""
 
-    def __init__(self, below, most):
+    def __init__(self, below, most, in_turn):
         self.below = below
         self.most = most
+        # whether no crate starts while another one runs
+        self.in_turn = in_turn
         self.waiting = set(below)
         self.running = {}
         self.done = set()
         self.chains = {}
 
     def copy(self):
-        plan = Plan(self.below, self.most)
+        plan = Plan(self.below, self.most, self.in_turn)
         plan.waiting, plan.running, plan.done = set(self.waiting), dict(self.running), set(self.done)
         return plan
 
@@ -128,13 +139,19 @@ class Plan:
         ready = [it for it in self.waiting if self.done.issuperset(self.below[it])]
         ready.sort(key=lambda it: (-self.chain(it), it))
         free = self.most - sum(self.running.values())
-        begun = {it: 1 for it in ready[:free]}
+        begun = {it: 1 for it in ready[: self.may_start(free)]}
         for crate in begun:
             while sum(begun.values()) < free and gain(crate, begun[crate]) >= LEAST_GAIN:
                 begun[crate] += 1
         self.waiting -= set(begun)
         self.running |= begun
         return begun
+
+    def may_start(self, free):
+        """Returns how many crates may start now, given the free processors."""
+        if self.in_turn:
+            return 0 if self.running else 1
+        return free
 
     def end(self, crate):
         del self.running[crate]
@@ -188,8 +205,9 @@ class Build:
     """The running build: each crate by `rt`, in a process session of its own and with a log of its own."""
 
     def __init__(self, below, asked, room):
-        self.plan = Plan(below, processes_at_once())
-        self.copies = Copies(below, asked, room)
+        in_turn = not copies_share()
+        self.plan = Plan(below, processes_at_once(), in_turn)
+        self.copies = Copies(below, below if in_turn else asked, room)
         self.room = pathlib.Path(room)
         self.began = {}
         self.children = {}

@@ -2,7 +2,8 @@
 //!
 //! This crate calls the library of [wmod], which is proved. Unless memory runs out, it returns [`Ok`] for exactly the
 //! valid modules of the profile within the limits that you set. The default profile refuses floats; [`Profile`] has the
-//! others, and a [`Feature`] adds to one. Modules are never run.
+//! others, and a [`Feature`] adds to one. [`Feature::Compilers`] adds what clang and rustc emit by default. Modules are
+//! never run.
 //!
 //! ```
 //! let module = b"\0asm\x01\0\0\0";

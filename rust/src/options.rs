@@ -45,7 +45,8 @@ impl Profile {
     }
 }
 
-/// A feature that [`Options::features`] adds to a profile. Each has a word of LLVM, which `wmod --features` takes.
+/// A feature, or a set of them, that [`Options::features`] adds to a profile. Each has a word that `wmod --features` takes:
+/// LLVM's, or `compilers`.
 #[derive(Clone, Copy, PartialEq, Eq, Debug)]
 #[non_exhaustive]
 pub enum Feature {
@@ -57,16 +58,22 @@ pub enum Feature {
     NontrappingFptoint,
     /// `bulk-memory-opt`: `memory.copy` and `memory.fill`.
     BulkMemoryOpt,
+    /// `bulk-memory`: `bulk-memory-opt`, passive segments, and their instructions, such as `memory.init`.
+    BulkMemory,
+    /// `compilers`: all of the above, and floats: what clang and rustc emit by default.
+    Compilers,
 }
 
 impl Feature {
-    // Its bit in the number of a profile.
-    fn bit(self) -> u64 {
+    // Its bits in the number of a profile.
+    fn bits(self) -> u64 {
         match self {
             Feature::SignExt => sys::SIGN_EXT,
             Feature::CallIndirectOverlong => sys::CALL_INDIRECT_OVERLONG,
             Feature::NontrappingFptoint => sys::NONTRAPPING_FPTOINT,
             Feature::BulkMemoryOpt => sys::BULK_MEMORY_OPT,
+            Feature::BulkMemory => sys::BULK_MEMORY,
+            Feature::Compilers => sys::COMPILERS,
         }
     }
 }
@@ -122,11 +129,15 @@ impl Options {
     ///
     /// let options = Options::new().profile(Profile::THREE).features(&[Feature::SignExt]);
     /// assert!(options.build("(module (type (func)) (func (type 0) i32.const 9 i32.extend8_s drop))").is_ok());
+    ///
+    /// // what clang and rustc emit by default
+    /// let options = Options::new().features(&[Feature::Compilers]);
+    /// assert!(options.build("(module (global f32 (f32.const 1)) (data \"passive\"))").is_ok());
     /// ```
     #[must_use]
     pub fn features(mut self, features: &[Feature]) -> Options {
         for feature in features {
-            self.0.profile |= feature.bit();
+            self.0.profile |= feature.bits();
         }
         self
     }

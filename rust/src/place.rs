@@ -23,11 +23,11 @@ pub enum Awaits {
     Mutability,
     /// The first byte of an instruction.
     Opcode,
-    /// The table index at the end of a `call_indirect`.
+    /// A table index of a `call_indirect`, `table.init` or `table.copy`.
     TableByte,
     /// A byte 00 of a memory instruction.
     MemoryByte,
-    /// The kind of an import or an export.
+    /// The kind of an import, an export or the elements of a segment.
     Kind,
     /// Any byte: of a float constant, a data segment, or a custom section after its name.
     Any,
@@ -57,7 +57,7 @@ pub(crate) const ALL_AWAITS: [Awaits; 14] = [
 #[derive(Clone, Copy, PartialEq, Eq, Hash, Debug)]
 #[non_exhaustive]
 pub struct Place {
-    /// The id of its section: 0 for a custom section, else 1 to 11. `None` in the header of the module and at the id of
+    /// The id of its section: 0 for a custom section, else 1 to 12. `None` in the header of the module and at the id of
     /// a section.
     pub section: Option<u8>,
     /// How many members of the section come before it, such as types or function bodies. `None` in the size and the

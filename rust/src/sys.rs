@@ -15,6 +15,8 @@ pub(crate) const SIGN_EXT: u64 = 0x100;
 pub(crate) const CALL_INDIRECT_OVERLONG: u64 = 0x200;
 pub(crate) const NONTRAPPING_FPTOINT: u64 = 0x400;
 pub(crate) const BULK_MEMORY_OPT: u64 = 0x800;
+pub(crate) const BULK_MEMORY: u64 = 0x1800;
+pub(crate) const COMPILERS: u64 = 0x3F00;
 pub(crate) const EXPLAIN_ROOM: usize = 1024;
 
 #[repr(C)]
@@ -182,6 +184,8 @@ mod tests {
             format!("WMOD_CALL_INDIRECT_OVERLONG {CALL_INDIRECT_OVERLONG}\n"),
             format!("WMOD_NONTRAPPING_FPTOINT {NONTRAPPING_FPTOINT}\n"),
             format!("WMOD_BULK_MEMORY_OPT {BULK_MEMORY_OPT}\n"),
+            format!("WMOD_BULK_MEMORY {BULK_MEMORY}\n"),
+            format!("WMOD_COMPILERS {COMPILERS}\n"),
             format!("WMOD_LIMIT_DEFAULT {LIMIT_DEFAULT}\nWMOD_LIMIT_MOST {LIMIT_MOST}\n"),
             format!("WMOD_NO_LIMIT {NO_LIMIT}\nWMOD_NONE {NONE}\n"),
             format!("WMOD_EXPLAIN_ROOM {EXPLAIN_ROOM}\n"),

@@ -144,7 +144,7 @@ impl Validator {
     /// validator.feed(b"\0asm\x01\0\0\0\x0C").unwrap_err();
     /// let hint = validator.hint().unwrap();
     /// assert_eq!((hint.begins.as_str(), hint.features.as_str()), ("a data count section", "bulk-memory"));
-    /// assert_eq!(hint.to_string(), "a data count section (bulk-memory); compile with -mno-bulk-memory");
+    /// assert_eq!(hint.to_string(), "a data count section (bulk-memory); use --features bulk-memory, or compile with -mno-bulk-memory");
     /// # Ok::<(), wmod::Error>(())
     /// ```
     pub fn hint(&mut self) -> Option<Hint> {

@@ -100,20 +100,20 @@ refusals! {
     1 "Magic" Magic,
     /// One of the next four bytes is not that of version 1, `01 00 00 00`.
     2 "Version" Version,
-    /// A section's id is above 11.
+    /// A section's id is above 11, or above 12 with the feature `bulk-memory`.
     3 "SectionId" SectionId,
     /// A section appears twice, or after a section that must follow it. The order is type, import, function, table,
-    /// memory, global, export, start, element, code, data. Custom sections may appear anywhere.
+    /// memory, global, export, start, element, data count, code, data. Custom sections may appear anywhere.
     4 "SectionOrder" SectionOrder,
     /// A section's contents do not match its size: they need more bytes, or bytes are left over.
     5 "SectionEnd" SectionEnd,
-    /// An integer has more bytes than its type allows, or its value does not fit the type. Or the table index of a
-    /// `call_indirect` is not 0.
+    /// An integer has more bytes than its type allows, or its value does not fit the type. Or a table index in an
+    /// instruction is not 0, or the flag of a segment is above 2.
     6 "BadNumber" BadNumber,
     /// A name is not UTF-8. Its last byte decides.
     7 "BadUtf8" BadUtf8,
     /// This byte is not allowed here. One of these must come: `60` for a function type, a value type, a block type, the
-    /// element type `70`, a kind, a flag, or a `00` of some instructions.
+    /// element type `70`, the element kind `00`, a kind, a flag, or a `00` of some instructions.
     8 "BadByte" BadByte,
     /// The module uses a floating-point type or instruction, but the profile has none.
     9 "Float" Float,
@@ -129,8 +129,8 @@ refusals! {
     13 "BodyEnd" BodyEnd,
     /// A function declares 2^32 locals or more.
     14 "TooManyLocals" TooManyLocals,
-    /// An index is out of range: there is no such type, function, table, memory, global, local or label. The initial
-    /// value of a global may name imported globals only.
+    /// An index is out of range: there is no such type, function, table, memory, global, local, label or segment. The
+    /// initial value of a global may name imported globals only.
     15 "Index" Index,
     /// An operand, a label or a constant has the wrong type, or an `if` with a result has no `else`. Operands are
     /// checked from the top of the stack: a wrong one above a missing one is `Type`, not `Arity`.
@@ -168,6 +168,9 @@ refusals! {
     29 "ManyLocals" ManyLocals,
     /// More blocks, loops and ifs are open at once than the policy allows. The first one over the limit decides.
     30 "Deep" Deep,
+    /// The number of data segments differs from that in the data count section. Or the section gives a number above 0,
+    /// and the input ends without a data section.
+    31 "DataCount" DataCount,
     /// The contents of a section of the built module have 2^32 bytes or more.
     100 "TooLarge" TooLarge,
     /// The text is not UTF-8. N is the length of its longest prefix that is UTF-8.

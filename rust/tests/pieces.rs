@@ -13,6 +13,8 @@ const CALL: &[u8] = b"\x00\x61\x73\x6d\x01\x00\x00\x00\x01\x04\x01\x60\x00\x00\x
 const FILL: &[u8] = b"\x00\x61\x73\x6d\x01\x00\x00\x00\x01\x04\x01\x60\x00\x00\x03\x02\x01\x00\x05\x03\x01\x00\x01\x0a\x0d\x01\x0b\x00\x41\x00\x41\x00\x41\x00\xfc\x0b\x00\x0b";
 // a function with i32.trunc_sat_f32_s
 const TRUNCATES: &[u8] = b"\x00\x61\x73\x6d\x01\x00\x00\x00\x01\x04\x01\x60\x00\x00\x03\x02\x01\x00\x0a\x0c\x01\x0a\x00\x43\x00\x00\x00\x00\xfc\x00\x1a\x0b";
+// a function that copies an element segment into its table, and drops it
+const INIT: &[u8] = b"\x00\x61\x73\x6d\x01\x00\x00\x00\x01\x04\x01\x60\x00\x00\x03\x02\x01\x00\x04\x04\x01\x70\x00\x01\x09\x04\x01\x01\x00\x00\x0a\x11\x01\x0f\x00\x41\x00\x41\x00\x41\x00\xfc\x0c\x00\x00\xfc\x0d\x00\x0b";
 const FLOAT: &[u8] = b"\0asm\x01\0\0\0\x06\x09\x01\x7D\0\x43\x01\0\xC0\x7F\x0B";
 
 fn cut(bytes: &[u8], at: usize) -> Result<wmod::Summary, Error> {
@@ -131,6 +133,18 @@ fn features_are_added_to_a_profile() {
         three.validate(TRUNCATES).unwrap_err().to_string(),
         "refused at 29: BadOpcode"
     );
+    assert_eq!(
+        all.validate(INIT).unwrap_err().to_string(),
+        "refused at 28: Index"
+    );
+    let bulk = Options::new().features(&[Feature::BulkMemory]);
+    assert!(bulk.validate(INIT).is_ok());
+    assert!(bulk.validate(FILL).is_ok());
+    assert!(bulk.validate(FLOAT).is_err());
+    let compilers = Options::new().features(&[Feature::Compilers]);
+    for bytes in [ADD, EXTENDS, FLOAT, CALL, FILL, TRUNCATES, INIT] {
+        assert!(compilers.validate(bytes).is_ok());
+    }
 }
 
 #[test]

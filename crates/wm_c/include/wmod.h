@@ -30,7 +30,7 @@ extern "C" {
 /* The version of the interface in this file; wmod_version() returns that of the library. A change that breaks callers
  * raises the major number, an addition the minor one. */
 #define WMOD_VERSION_MAJOR 1
-#define WMOD_VERSION_MINOR 2
+#define WMOD_VERSION_MINOR 3
 #define WMOD_VERSION (WMOD_VERSION_MAJOR * 65536u + WMOD_VERSION_MINOR)
 
 /* The release, as `wmod --version` and `pkg-config --modversion wmod` print it. */
@@ -50,12 +50,14 @@ extern "C" {
 #define WMOD_PROFILE_3 3u /* all of WebAssembly 1.0 */
 #define WMOD_PROFILE_4 4u /* profile 3 and the five sign-extension instructions */
 
-/* The features, with LLVM's words for them, which `wmod --features` takes. Any other bit is WMOD_MISUSE: an older
- * library takes no feature that it does not know. */
+/* The features, with the words for them that `wmod --features` takes: LLVM's, and compilers. Any other bit is
+ * WMOD_MISUSE: an older library takes no feature that it does not know. */
 #define WMOD_SIGN_EXT 0x100u /* sign-ext: the five sign-extension instructions, such as i32.extend8_s */
 #define WMOD_CALL_INDIRECT_OVERLONG 0x200u /* call-indirect-overlong: a table index of several bytes in call_indirect, as clang writes it */
 #define WMOD_NONTRAPPING_FPTOINT 0x400u /* nontrapping-fptoint: the eight truncations that saturate, such as i32.trunc_sat_f64_s */
 #define WMOD_BULK_MEMORY_OPT 0x800u /* bulk-memory-opt: memory.copy and memory.fill */
+#define WMOD_BULK_MEMORY 0x1800u /* bulk-memory: bulk-memory-opt, passive segments, and their instructions, such as memory.init */
+#define WMOD_COMPILERS 0x3F00u /* compilers: all of the above, and floats: what clang and rustc emit by default */
 
 /* Limits of an input, in bytes. A longer binary is refused as WMOD_WHY_TOO_LONG, unless its first bytes are refused for
  * another reason. A longer text is always refused as WMOD_WHY_TOO_LONG. */
@@ -94,6 +96,7 @@ enum {
   WMOD_WHY_MANY_FUNCTIONS = 28, /* ManyFunctions: more than the options allow */
   WMOD_WHY_MANY_LOCALS = 29, /* ManyLocals */
   WMOD_WHY_DEEP = 30, /* Deep */
+  WMOD_WHY_DATA_COUNT = 31, /* DataCount */
   /* only from wmod_build: the contents of a section of the module's binary have 2^32 bytes or more */
   WMOD_WHY_TOO_LARGE = 100, /* TooLarge */
   /* only from wmod_build: the text writes no module of the profile, or memory was refused */
@@ -123,7 +126,7 @@ enum {
 /* The answer to an input. If the status is WMOD_VALID, `why` and `at` are 0. Otherwise the figures are 0. */
 typedef struct wmod_answer {
   uint32_t status;    /* WMOD_VALID .. WMOD_MEMORY */
-  uint32_t why;       /* WMOD_WHY_MAGIC .. WMOD_WHY_DEEP, or 0 */
+  uint32_t why;       /* WMOD_WHY_MAGIC .. WMOD_WHY_DATA_COUNT, or 0 */
   uint64_t at;        /* the bytes read up to and including the one that decided */
   uint64_t functions; /* the functions with a body */
   uint64_t moves;     /* the most pushes and pops on the two stacks in one body */
@@ -187,7 +190,7 @@ typedef struct wmod_output {
  *   WMOD_WHY_TOO_LONG   The text is longer than the limit. `at` is the limit plus 1.
  *   WMOD_TEXT_..        The text writes no module of the profile. `at` counts the bytes before the token that decided.
  *   WMOD_WHY_TOO_LARGE  A section of the module's binary would be too large. `at` is 0.
- *   any other           The module is refused. `at` is an offset in its canonical binary.
+ *   any other           The module is refused. `at` is an offset in its canonical binary as the profile reads it.
  *
  * Proved: the bytes written are the canonical binary or the text of the module that the input spells or writes. This
  * module is valid, of the profile and within the limits. A refusal from wmod_canon or wmod_show is the one that
@@ -269,16 +272,16 @@ enum {
   WMOD_AWAITS_ELEMENT_TYPE = 7, /* the element type of a table */
   WMOD_AWAITS_MUTABILITY = 8,   /* the mutability of a global */
   WMOD_AWAITS_OPCODE = 9,       /* the first byte of an instruction */
-  WMOD_AWAITS_TABLE_BYTE = 10,  /* the table index at the end of a call_indirect */
+  WMOD_AWAITS_TABLE_BYTE = 10,  /* a table index of a call_indirect, table.init or table.copy */
   WMOD_AWAITS_MEMORY_BYTE = 11, /* a byte 00 of a memory instruction */
-  WMOD_AWAITS_KIND = 12,        /* the kind of an import or an export */
+  WMOD_AWAITS_KIND = 12,        /* the kind of an import, an export or the elements of a segment */
   WMOD_AWAITS_ANY = 13,         /* any byte: of a float constant, a data segment, or a custom section after its name */
   WMOD_AWAITS_OPCODE_NUMBER = 14 /* the first byte of the number behind the byte FC of an instruction */
 };
 
 /* The place of a byte in a module. WMOD_NONE stands for no value. */
 struct wmod_place {
-  uint32_t section; /* the id of its section: 0 for a custom section, else 1 to 11. WMOD_NONE in the header of the
+  uint32_t section; /* the id of its section: 0 for a custom section, else 1 to 12. WMOD_NONE in the header of the
                        module and at the id of a section */
   uint32_t item;    /* how many members of the section come before it, such as types or function bodies. WMOD_NONE in
                        the size and the count of a section, in a custom section, and outside of sections */

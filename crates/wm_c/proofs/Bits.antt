@@ -1,5 +1,5 @@
 -- Lemmas about the bits of features in a profile's number.
-use Rattle.std.proofs.Common.{◌≡◌, ◌≢◌, ◌+◌, ◌*◌, ◌/◌, ◌%◌, ◌<◌, ◌≤◌, ℕ, List, ◌∷◌, MatchOption, None, Option, Some, arith, inl, inr, subst, sym}
+use Rattle.std.proofs.Common.{◌≡◌, ◌≢◌, ◌+◌, ◌*◌, ◌/◌, ◌%◌, ◌≤◌, ℕ, List, ◌∷◌, MatchOption, None, Option, Some, arith, inl, inr, subst}
 use Rattle.wm_syntax.specs.Profiles.{AddsFeature}
 use Rattle.wm_c.specs.Codes.{AddsBits, IsProfileCode, NumbersProfile}
 use Rattle.wm_syntax.specs.declared.profile.Feature.{Feature}

@@ -7,7 +7,7 @@ use Rattle.wm_machine.specs.declared.refusal.Refusal.{Refusal}
 use Rattle.wm_rules.specs.declared.policy.Policy.{Policy}
 use Rattle.wm_rules.specs.Loading.{Loads}
 use Rattle.wm_write.specs.Canon.{canon}
-use Rattle.wm_write.proofs.Shortest.{canon_shortest}
+use Rattle.wm_write.proofs.SegmentFronts.{valid_shortest}
 use Rattle.wm_c.specs.Answers.{IsRight}
 use Rattle.wm_c.specs.declared.options.Options.{Options}
 use Rattle.wm_c.specs.declared.output.Output.{Output}
@@ -146,4 +146,4 @@ pub enough : (o : Options) (input before after : List ℕ) (out : Output) → Co
 enough o input before after out c room five = by (c.room five)
   where
     by : Asking o (λ p limit q. (m : Module) × Loads p limit q input m × (length before < length (canon m)) × (out ≡ no_room (length (canon m)))) → ⊥
-    by (p, a, (m, l, lt, is)) = absurd (omega (arith, room, lt, canon_shortest p m input l.spelled.1))
+    by (p, a, (m, l, lt, is)) = absurd (omega (arith, room, lt, valid_shortest p m input l.valid l.spelled.1))

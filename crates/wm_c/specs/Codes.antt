@@ -7,8 +7,9 @@ use Rattle.wm_syntax.specs.declared.why.Why.TheVariants.{Truncated, CodeCount, B
 use Rattle.wm_syntax.specs.declared.why.Why.TheVariants.{Mismatch, Arity, Limits, Second, DuplicateExport}
 use Rattle.wm_syntax.specs.declared.why.Why.TheVariants.{StartType, NotConst, Immutable, Align, ElsePlace}
 use Rattle.wm_syntax.specs.declared.why.Why.TheVariants.{TooLong, Memory, ManyFunctions, ManyLocals, Deep}
+use Rattle.wm_syntax.specs.declared.why.Why.TheVariants.{DataCount}
 use Rattle.wm_syntax.specs.declared.profile.Feature.{Feature}
-use Rattle.wm_syntax.specs.declared.profile.Feature.TheVariants.{Copies, LongIndex, Saturation, SignExtension}
+use Rattle.wm_syntax.specs.declared.profile.Feature.TheVariants.{BulkMemory, Copies, Floats, LongIndex, Saturation, SignExtension}
 use Rattle.wm_syntax.specs.declared.profile.Profile.{Profile}
 use Rattle.wm_tokens.specs.declared.faults.TextWhy.{TextWhy}
 use Rattle.wm_tokens.specs.declared.faults.TextWhy.TheVariants as text
@@ -46,6 +47,7 @@ why_code Memory = 27
 why_code ManyFunctions = 28
 why_code ManyLocals = 29
 why_code Deep = 30
+why_code DataCount = 31
 
 -- The status of a call that ends with this refusal of a module: 4 for `Memory`, and 1 for any other.
 abbrev pub status_code : Why → ℕ
@@ -79,6 +81,7 @@ status_code Memory = 4
 status_code ManyFunctions = 1
 status_code ManyLocals = 1
 status_code Deep = 1
+status_code DataCount = 1
 
 -- The number of a refusal of a text. 100 means a module with a section that is too large.
 abbrev pub text_code : TextWhy → ℕ
@@ -134,7 +137,7 @@ pub record NumbersProfile (n : ℕ) (p : Profile) : Type 0 where
 
 -- The feature of each bit of a profile's number, from the bit 0x100 up.
 abbrev pub bit_features : List Feature
-bit_features = SignExtension ∷ LongIndex ∷ Saturation ∷ Copies ∷ []
+bit_features = SignExtension ∷ LongIndex ∷ Saturation ∷ Copies ∷ BulkMemory ∷ Floats ∷ []
 
 -- The profile `p` is `base` with the features added whose bits are 1 in this number. The lowest bit is that of the first
 -- feature. Each bit past the last feature is 0.

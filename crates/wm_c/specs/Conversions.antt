@@ -10,7 +10,7 @@ use Rattle.wm_rules.specs.Loading.{Loads}
 use Rattle.wm_rules.specs.Meanings.{Meaning}
 use Rattle.wm_rules.specs.Policies.{Within}
 use Rattle.wm_rules.specs.Validation.{Valid}
-use Rattle.wm_write.specs.Canon.{Fits, canon}
+use Rattle.wm_write.specs.Canon.{FitsUnder, canon, canon_under}
 use Rattle.wm_write.specs.declared.check_module.CheckFault.{CheckFault}
 use Rattle.wm_write.specs.declared.check_module.CheckFault.TheVariants as check
 use Rattle.wm_tokens.specs.declared.faults.TextWhy.TheVariants as text
@@ -102,12 +102,13 @@ pub record Builds (s : Spellings) (input : List ℕ) (p : Profile) (limit : ℕ)
   pub within : Within q m
 
 -- Why no canonical binary is given for a module. `Refused`: the module is not valid or not within the policy. The
--- refusal is that of its canonical binary under the limit 2^62, other than `Memory`, and its meaning holds.
--- `TooLarge`: a section would be too large. `Memory` may come for any module.
+-- refusal is that of its canonical binary under the profile and the limit 2^62, other than `Memory`, and its meaning
+-- holds. `TooLarge`: a section would be too large. `Memory` may come for any module.
 abbrev pub IsUnchecked : Profile → Policy → Module → CheckFault → Type 0
 IsUnchecked p q m (check.Refused r) = (Valid m → Within q m → ⊥) × (r.why ≢ why.Memory)
-    × (verdict p (2 ^ 62) q (canon m) ≡ Err r) × (r.at ≤ length (canon m)) × Meaning p (2 ^ 62) q (canon m) r
-IsUnchecked p q m check.TooLarge = Fits m → ⊥
+    × (verdict p (2 ^ 62) q (canon_under p m) ≡ Err r) × (r.at ≤ length (canon_under p m))
+    × Meaning p (2 ^ 62) q (canon_under p m) r
+IsUnchecked p q m check.TooLarge = FitsUnder p m → ⊥
 IsUnchecked p q m check.Memory = Unit {0}
 
 -- Why no binary is given for a text. `TooLong`: it is longer than the limit, and the offset is `limit + 1`. `Text`:

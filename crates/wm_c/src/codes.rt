@@ -11,42 +11,58 @@ use wm_read::faults::TextWhy;
 use wm_syntax::profile::{Feature, Profile};
 use wm_syntax::why::Why;
 
-/// The number of a refusal, 1 to 30.
+/// Passes the refusals of a module, with their numbers, to the macro `$reader`. Its arguments come first, in brackets.
+macro_rules! of_modules {
+    ($reader:ident, $($args:ident),*) => {
+        $reader! { [$($args)*],
+            Magic => 1; Version => 2; SectionId => 3; SectionOrder => 4; SectionEnd => 5;
+            BadNumber => 6; BadUtf8 => 7; BadByte => 8; Float => 9; BadOpcode => 10;
+            Truncated => 11; CodeCount => 12; BodyEnd => 13; TooManyLocals => 14; Index => 15;
+            Mismatch => 16; Arity => 17; Limits => 18; Second => 19; DuplicateExport => 20;
+            StartType => 21; NotConst => 22; Immutable => 23; Align => 24; ElsePlace => 25;
+            TooLong => 26; Memory => 27; ManyFunctions => 28; ManyLocals => 29; Deep => 30;
+            DataCount => 31;
+        }
+    };
+}
+
+/// Does the same with the refusals of a text.
+macro_rules! of_texts {
+    ($reader:ident, $($args:ident),*) => {
+        $reader! { [$($args)*],
+            NotUtf8 => 101; BadToken => 102; OpenComment => 103; OpenString => 104;
+            BadEscape => 105; Expected => 106; UnknownWord => 107; BadInteger => 108;
+            BadName => 109; UnknownId => 110; RepeatedId => 111; TypeUse => 112;
+            ImportPlace => 113; SecondStart => 114; NotConst => 115; BadAlign => 116;
+            LabelEnd => 117; TooManyLocals => 118; Float => 119; Memory => 120; BadFloat => 121;
+        }
+    };
+}
+
+// The number of a refusal of this enum.
+macro_rules! number_of {
+    ([$refusals:ident $why:ident], $($variant:ident => $number:literal;)*) => {
+        match $why {
+            $($refusals::$variant => $number,)*
+        }
+    };
+}
+
+// The refusal with a number.
+macro_rules! of_number {
+    ([$refusals:ident $wanted:ident], $($variant:ident => $number:literal;)*) => {
+        match $wanted {
+            $($number => Some($refusals::$variant),)*
+            _ => None,
+        }
+    };
+}
+
+/// The number of a refusal, 1 to 31.
 pub(crate) fn why_number(why: Why) -> u32
     ensures { result ≡ why_code why }
 {
-    match why {
-        Why::Magic => 1,
-        Why::Version => 2,
-        Why::SectionId => 3,
-        Why::SectionOrder => 4,
-        Why::SectionEnd => 5,
-        Why::BadNumber => 6,
-        Why::BadUtf8 => 7,
-        Why::BadByte => 8,
-        Why::Float => 9,
-        Why::BadOpcode => 10,
-        Why::Truncated => 11,
-        Why::CodeCount => 12,
-        Why::BodyEnd => 13,
-        Why::TooManyLocals => 14,
-        Why::Index => 15,
-        Why::Mismatch => 16,
-        Why::Arity => 17,
-        Why::Limits => 18,
-        Why::Second => 19,
-        Why::DuplicateExport => 20,
-        Why::StartType => 21,
-        Why::NotConst => 22,
-        Why::Immutable => 23,
-        Why::Align => 24,
-        Why::ElsePlace => 25,
-        Why::TooLong => 26,
-        Why::Memory => 27,
-        Why::ManyFunctions => 28,
-        Why::ManyLocals => 29,
-        Why::Deep => 30,
-    }
+    of_modules!(number_of, Why, why)
 }
 
 /// The status of a call that ends with this refusal: 4 for `Memory`, and 1 for any other.
@@ -63,68 +79,14 @@ pub(crate) fn refused_status(why: Why) -> u32
 pub(crate) fn why_of(number: u32) -> Option<Why>
     ensures { MatchOption result ((why : AWhy) → number ≢ why_code why) (λ why. number ≡ why_code why) }
 {
-    match number {
-        1 => Some(Why::Magic),
-        2 => Some(Why::Version),
-        3 => Some(Why::SectionId),
-        4 => Some(Why::SectionOrder),
-        5 => Some(Why::SectionEnd),
-        6 => Some(Why::BadNumber),
-        7 => Some(Why::BadUtf8),
-        8 => Some(Why::BadByte),
-        9 => Some(Why::Float),
-        10 => Some(Why::BadOpcode),
-        11 => Some(Why::Truncated),
-        12 => Some(Why::CodeCount),
-        13 => Some(Why::BodyEnd),
-        14 => Some(Why::TooManyLocals),
-        15 => Some(Why::Index),
-        16 => Some(Why::Mismatch),
-        17 => Some(Why::Arity),
-        18 => Some(Why::Limits),
-        19 => Some(Why::Second),
-        20 => Some(Why::DuplicateExport),
-        21 => Some(Why::StartType),
-        22 => Some(Why::NotConst),
-        23 => Some(Why::Immutable),
-        24 => Some(Why::Align),
-        25 => Some(Why::ElsePlace),
-        26 => Some(Why::TooLong),
-        27 => Some(Why::Memory),
-        28 => Some(Why::ManyFunctions),
-        29 => Some(Why::ManyLocals),
-        30 => Some(Why::Deep),
-        _ => None,
-    }
+    of_modules!(of_number, Why, number)
 }
 
 /// The number of a text's refusal, 101 to 121.
 pub(crate) fn text_number(why: TextWhy) -> u32
     ensures { result ≡ text_code why }
 {
-    match why {
-        TextWhy::NotUtf8 => 101,
-        TextWhy::BadToken => 102,
-        TextWhy::OpenComment => 103,
-        TextWhy::OpenString => 104,
-        TextWhy::BadEscape => 105,
-        TextWhy::Expected => 106,
-        TextWhy::UnknownWord => 107,
-        TextWhy::BadInteger => 108,
-        TextWhy::BadName => 109,
-        TextWhy::UnknownId => 110,
-        TextWhy::RepeatedId => 111,
-        TextWhy::TypeUse => 112,
-        TextWhy::ImportPlace => 113,
-        TextWhy::SecondStart => 114,
-        TextWhy::NotConst => 115,
-        TextWhy::BadAlign => 116,
-        TextWhy::LabelEnd => 117,
-        TextWhy::TooManyLocals => 118,
-        TextWhy::Float => 119,
-        TextWhy::Memory => 120,
-        TextWhy::BadFloat => 121,
-    }
+    of_texts!(number_of, TextWhy, why)
 }
 
 /// The status of a call that ends with this refusal of a text: 4 for `Memory`, and 1 for any other.
@@ -141,38 +103,17 @@ pub(crate) fn text_status(why: TextWhy) -> u32
 pub(crate) fn text_of(number: u32) -> Option<TextWhy>
     ensures { MatchOption result ((why : ATextWhy) → number ≢ text_code why) (λ why. number ≡ text_code why) }
 {
-    match number {
-        101 => Some(TextWhy::NotUtf8),
-        102 => Some(TextWhy::BadToken),
-        103 => Some(TextWhy::OpenComment),
-        104 => Some(TextWhy::OpenString),
-        105 => Some(TextWhy::BadEscape),
-        106 => Some(TextWhy::Expected),
-        107 => Some(TextWhy::UnknownWord),
-        108 => Some(TextWhy::BadInteger),
-        109 => Some(TextWhy::BadName),
-        110 => Some(TextWhy::UnknownId),
-        111 => Some(TextWhy::RepeatedId),
-        112 => Some(TextWhy::TypeUse),
-        113 => Some(TextWhy::ImportPlace),
-        114 => Some(TextWhy::SecondStart),
-        115 => Some(TextWhy::NotConst),
-        116 => Some(TextWhy::BadAlign),
-        117 => Some(TextWhy::LabelEnd),
-        118 => Some(TextWhy::TooManyLocals),
-        119 => Some(TextWhy::Float),
-        120 => Some(TextWhy::Memory),
-        121 => Some(TextWhy::BadFloat),
-        _ => None,
-    }
+    of_texts!(of_number, TextWhy, number)
 }
 
 /// The feature of each bit of a profile's number, from the bit 0x100 up: `WMOD_SIGN_EXT` and those after it.
-const FEATURES: [Feature; 4] = [
+const FEATURES: [Feature; 6] = [
     Feature::SignExtension,
     Feature::LongIndex,
     Feature::Saturation,
     Feature::Copies,
+    Feature::BulkMemory,
+    Feature::Floats,
 ];
 
 /// Returns the profile with this number: 1 to 4, and the bits of features that are added to it.

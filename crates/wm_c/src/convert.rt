@@ -145,13 +145,7 @@ fn load(alloc: Global, bytes: &[u8], asked: Asked) -> Result<Checked, Refusal>
     ensures refused { IfErr result (λ r.
         IsRight asked.profile asked.max_bytes asked.policy bytes.now (Err r)) }
 {
-    let Asked {
-        profile,
-        max_bytes,
-        policy,
-        spellings: _,
-    } = asked;
-    let mut loader = Loader::new(alloc, profile, max_bytes, policy);
+    let mut loader = Loader::new(alloc, asked.profile, asked.max_bytes, asked.policy);
     match loader.feed(bytes) {
         Ok(()) => match loader.finish() {
             Ok(checked) => Ok(checked),

@@ -166,7 +166,7 @@ fn append(n: usize, word: &[u8], to: &mut [u8])
 /// Returns the version of the interface, as `WMOD_VERSION` of the header: major * 65536 + minor.
 #[unsafe(no_mangle)]
 pub extern "C" fn wmod_version() -> u32
-    ensures { result ≡ 65538 }
+    ensures { result ≡ 65539 }
 {
-    (1 << 16) + 2
+    (1 << 16) + 3
 }

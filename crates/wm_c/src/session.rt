@@ -48,14 +48,9 @@ impl Session {
         ensures ready { IsReading result.state }
         ensures unrefused { (r : ARefusal) → StateRefused result.state r → ⊥ }
     {
-        let Asked {
-            profile,
-            max_bytes,
-            policy,
-            spellings: _,
-        } = asked;
+        let validator = Validator::new(alloc, asked.profile, asked.max_bytes, asked.policy);
         Session {
-            state: State::Reading(Validator::new(alloc, profile, max_bytes, policy)),
+            state: State::Reading(validator),
             place: Place::nowhere(),
         }
     }

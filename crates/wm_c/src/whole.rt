@@ -86,13 +86,7 @@ fn read(alloc: Global, bytes: &[u8], asked: Asked) -> Validator
     requires { asked.max_bytes ≤ 2 ^ 62 }
     ensures { HasRead result asked.profile asked.max_bytes asked.policy bytes.now }
 {
-    let Asked {
-        profile,
-        max_bytes,
-        policy,
-        spellings: _,
-    } = asked;
-    let mut validator = Validator::new(alloc, profile, max_bytes, policy);
+    let mut validator = Validator::new(alloc, asked.profile, asked.max_bytes, asked.policy);
     // the validator keeps a refusal, and `finish` returns it
     let _ = validator.feed(bytes);
     validator

@@ -19,7 +19,7 @@ use Rattle.wm_rules.specs.declared.loader.state.Checked.{Checked}
 use Rattle.wm_rules.specs.inner.Loaders.{module_in}
 use Rattle.wm_write.specs.Canon.{Fits, canon}
 use Rattle.wm_write.specs.Layout.{layout}
-use Rattle.wm_write.proofs.Shortest.{spelled_fits}
+use Rattle.wm_write.proofs.SegmentFronts.{valid_fits}
 use Rattle.wm_command.specs.declared.arguments.Action.{Action}
 use Rattle.wm_rules.specs.declared.policy.Policy.{Policy}
 use Rattle.wm_read.specs.declared.spellings.Spellings.{Spellings}
@@ -116,7 +116,7 @@ out_of_loaded action form w p limit q s all left c j = (inl (w.report (value_of 
 
 -- No section of a loaded module is too large.
 pub loaded_fits : (m : Module) → ∥ IsLoaded m ∥₁ → (¬ Fits m) → ⊥
-loaded_fits m l n = ∥∥₁_elim l (λ x y. absurd x) (λ h. n (spelled_fits h.profile m h.bytes h.loads.spelled.1))
+loaded_fits m l n = ∥∥₁_elim l (λ x y. absurd x) (λ h. n (valid_fits h.profile m h.bytes h.loads.valid h.loads.spelled.1))
 
 -- A text was written whole, and then the writer was flushed.
 take-nil : (n : ℕ) → ◌≡◌ {A = List ℕ} (take n []) []

@@ -10,7 +10,7 @@ use Rattle.wm_rules.specs.Policies.{Within}
 use Rattle.wm_rules.specs.Meanings.{Meaning}
 use Rattle.wm_rules.specs.Validation.{Valid}
 use Rattle.wm_rules.specs.inner.Validators.{verdict}
-use Rattle.wm_write.specs.Canon.{Fits, canon}
+use Rattle.wm_write.specs.Canon.{FitsUnder, canon, canon_under}
 use Rattle.wm_tokens.specs.declared.faults.TextWhy.{TextWhy}
 use Rattle.wm_tokens.specs.declared.faults.TextWhy.TheVariants as fault
 use Rattle.wm_read.specs.declared.spellings.Spellings.{Spellings}
@@ -25,14 +25,15 @@ use Rattle.wm_command.specs.Refused.{module_line, refusal_line, text_line, too_l
 -- 2. m fits, but is not valid or not within the policy: the refusal of its canonical binary other than `Memory`,
 --    with its meaning, and `Refused`.
 -- 3. A section of m does not fit its size field, so m has no canonical binary: `too_large_line`, and `Refused`.
--- The canonical binary is judged under the limit 2^62.
+-- The canonical binary is judged under the limit 2^62. It is that of the profile, which is `canon m` for a valid m.
 abbrev pub ModuleOut : Profile → Policy → Module → List ℕ → Status → Type 0
 ModuleOut p q m written status =
-    (Valid m × Within q m × Fits m × (written ≡ canon m) × (status ≡ Done))
-    ⊎ ((Valid m → Within q m → ⊥) × Fits m
-    × ((r : Refusal) × (r.why ≢ Memory) × (r.at ≤ length (canon m)) × (verdict p (2 ^ 62) q (canon m) ≡ Err r)
-    × Meaning p (2 ^ 62) q (canon m) r × (written ≡ module_line r.at r.why)) × (status ≡ Refused))
-    ⊎ ((Fits m → ⊥) × (written ≡ too_large_line) × (status ≡ Refused))
+    (Valid m × Within q m × FitsUnder p m × (written ≡ canon m) × (status ≡ Done))
+    ⊎ ((Valid m → Within q m → ⊥) × FitsUnder p m
+    × ((r : Refusal) × (r.why ≢ Memory) × (r.at ≤ length (canon_under p m))
+    × (verdict p (2 ^ 62) q (canon_under p m) ≡ Err r)
+    × Meaning p (2 ^ 62) q (canon_under p m) r × (written ≡ module_line r.at r.why)) × (status ≡ Refused))
+    ⊎ ((FitsUnder p m → ⊥) × (written ≡ too_large_line) × (status ≡ Refused))
 
 -- The output and the status for a text. A text that writes a module gives the output for that module. A text
 -- that writes none gives a refusal other than `Memory`, at an offset within the text, for which `TellsText` holds.

@@ -13,7 +13,7 @@ use Rattle.clap.specs.Simple.{on_top}
 use Rattle.clap.specs.declared.parser.matches.Found.{Found}
 use Rattle.clap.specs.declared.builder.action.ArgAction.TheVariants.{Append, Set, SetTrue}
 use Rattle.wm_syntax.specs.declared.profile.Feature.{Feature}
-use Rattle.wm_syntax.specs.declared.profile.Feature.TheVariants.{Copies, LongIndex, Saturation, SignExtension}
+use Rattle.wm_syntax.specs.declared.profile.Feature.TheVariants.{BulkMemory, Copies, Floats, LongIndex, Saturation, SignExtension}
 use Rattle.wm_syntax.specs.declared.profile.Profile.{Profile}
 use Rattle.wm_syntax.specs.Profiles.{AddsFeature, four, one, three, two}
 use Rattle.wm_rules.specs.declared.policy.Policy.{Policy}
@@ -123,12 +123,16 @@ abbrev pub IsProfile : Option Text → Profile → Type 0
 IsProfile None p = p ≡ one
 IsProfile (Some text) p = NamesProfile text p
 
--- This word of `--features` names these features. Any other word names none. The words are those of LLVM.
+-- This word of `--features` names these features. Any other word names none. The words are those of LLVM, but for
+-- `compilers`, which names all of these features and the floats.
 abbrev pub NamesFeatures : Text → List Feature → Type 0
 NamesFeatures text features = ((text ≡ codes "sign-ext") × (features ≡ SignExtension ∷ []))
     ⊎ ((text ≡ codes "call-indirect-overlong") × (features ≡ LongIndex ∷ []))
     ⊎ ((text ≡ codes "nontrapping-fptoint") × (features ≡ Saturation ∷ []))
     ⊎ ((text ≡ codes "bulk-memory-opt") × (features ≡ Copies ∷ []))
+    ⊎ ((text ≡ codes "bulk-memory") × (features ≡ Copies ∷ BulkMemory ∷ []))
+    ⊎ ((text ≡ codes "compilers")
+    × (features ≡ Floats ∷ SignExtension ∷ LongIndex ∷ Saturation ∷ Copies ∷ BulkMemory ∷ []))
 
 -- The profile `p` is `base` with these features added.
 abbrev pub AddsFeatures : Profile → List Feature → Profile → Type 0

@@ -30,8 +30,7 @@ use wm_syntax::io::{Dest, Source};
 use wm_syntax::modules::Module;
 use wm_syntax::profile::Profile;
 use wm_syntax::why::Why;
-use wm_write::check_module::{CheckFault, checked_bytes};
-use wm_write::in_memory::encoded;
+use wm_write::check_module::{CheckFault, checked_bytes, encoded_under};
 
 const PIECE: usize = 4096;
 
@@ -200,11 +199,11 @@ fn convert_module<W: Dest>(
     }
 }
 
-/// Returns what is known of the byte at which a refused module's canonical binary is refused. The binary was not kept,
-/// so it is written and validated again. Returns `None` only if memory is refused. No contract: the refusal is known, and
-/// this decides only the words of its detail.
+/// Finds the byte at which the profile refuses the binary of a module, and its place. The binary was not kept, so it is
+/// written and validated again. Returns `None` only if memory is refused. No contract: the refusal is known, and this
+/// decides only the words of its detail.
 fn find_in_binary(alloc: Global, profile: Profile, policy: Policy, m: &Module) -> Option<Found> {
-    let Ok(bytes) = encoded(alloc, m) else {
+    let Ok(bytes) = encoded_under(alloc, profile, m) else {
         return None;
     };
     let mut validator = Validator::new(alloc, profile, MAX_BINARY, policy);

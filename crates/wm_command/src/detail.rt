@@ -231,7 +231,7 @@ impl TextDetail {
         let TextRefusal { at, why } = refusal;
         let Position { line, column } = locate(text, at);
         let expected = match why {
-            TextWhy::Expected => expected_at(text, at),
+            TextWhy::Expected | TextWhy::NotConst => expected_at(text, at),
             _ => None,
         };
         TextDetail {

@@ -100,6 +100,7 @@ enum Part {
     GlobalType,
     /// A constant instruction, in parentheses or not.
     Constant,
+    /// The offset of a segment. A passive one has none, but may begin with a string or the keyword `func`.
     Offset,
 }
 
@@ -246,6 +247,10 @@ const OFFSETS: Forms = &[
 const CODE: Forms = &[
     ("i32.const", AFTER_CONST),
     ("i64.const", AFTER_CONST),
+    ("memory.init", AFTER_CONST),
+    ("data.drop", AFTER_CONST),
+    ("table.init", AFTER_CONST),
+    ("elem.drop", AFTER_CONST),
     ("block", AFTER_BLOCK),
     ("loop", AFTER_BLOCK),
     ("if", AFTER_BLOCK),
@@ -336,7 +341,7 @@ impl Part {
     fn begins(self, next: Next<'_>) -> bool {
         let atom = match next {
             Next::Form(word) => return self.inside(word).is_some(),
-            Next::String => return self == Part::String,
+            Next::String => return self == Part::String || self == Part::Offset,
             Next::Atom(atom) => atom,
         };
         match self {
@@ -345,7 +350,7 @@ impl Part {
             Part::Index => !is_word(atom),
             Part::Number => !is_id(atom),
             Part::ValueType | Part::GlobalType | Part::Funcref => is_word(atom),
-            Part::Func => atom == b"func".as_slice(),
+            Part::Func | Part::Offset => atom == b"func".as_slice(),
             Part::Constant => inside(CONSTANTS, atom).is_some(),
             Part::Code => true,
             _ => false,
@@ -463,10 +468,10 @@ impl OpenForms {
         Some(())
     }
 
-    /// Closes the innermost form. Returns `None` if more must come in it.
+    /// Closes the innermost form. Returns `None` if more must come in it. An offset need not: a segment may be passive.
     fn close(&mut self) -> Option<()> {
         let left = *self.left.get(self.innermost)?;
-        if left.iter().any(|item| matches!(item, Slot::Once(_))) {
+        if left.iter().any(|item| matches!(item, Slot::Once(part) if *part != Part::Offset)) {
             return None;
         }
         self.innermost = self.innermost.checked_sub(1)?;

@@ -13,8 +13,8 @@ use std::fmt;
 use strsim::jaro_winkler;
 use wm_syntax::profile::{Feature, Profile};
 
-/// Passes the rows of the one table of words to the macro `$reader`, after its own arguments. A row has a word of LLVM, the
-/// features that it adds, and what they admit. `specs/Lines.antt` says what is right.
+/// Passes the rows of the one table of words to the macro `$reader`, after its own arguments. A row has a word, the features
+/// that it adds, and what they admit. Each word but the last is LLVM's. `specs/Lines.antt` says what is right.
 macro_rules! feature_words {
     ($reader:ident $(, $args:tt)*) => {
         $reader! {
@@ -23,6 +23,8 @@ macro_rules! feature_words {
             "call-indirect-overlong" => [LongIndex], "a table index of several bytes in call_indirect, as clang writes it";
             "nontrapping-fptoint" => [Saturation], "the eight truncations that saturate, such as i32.trunc_sat_f64_s";
             "bulk-memory-opt" => [Copies], "memory.copy and memory.fill";
+            "bulk-memory" => [Copies, BulkMemory], "bulk-memory-opt, passive segments, and their instructions, such as memory.init";
+            "compilers" => [Floats, SignExtension, LongIndex, Saturation, Copies, BulkMemory], "all of the above, and floats: what clang and rustc emit by default";
         }
     };
 }

@@ -143,7 +143,7 @@ const ANSWERS: &str =
     Examples:\n  \
     wmod check module.wasm\n  \
     wmod check --profile 3 with_floats.wasm\n  \
-    wmod check --profile 3 --features sign-ext later.wasm\n  \
+    wmod check --features compilers compiled.wasm\n  \
     wmod stats --limit 1000000 < module.wasm\n  \
     wmod check first.wasm second.wasm\n  \
     find modules -name '*.wasm' -print0 | wmod check --from - --null\n  \

@@ -18,23 +18,28 @@ pub const OF_FEATURES: &str = "\
     BadOpcode | any | opcode | c0 to c4 | a sign-extension instruction | sign-ext | use --features \
         sign-ext, or compile with -mno-sign-ext\n\
     BadOpcode | any | opcode | fc | a saturating conversion, or an instruction on a whole memory or \
-        table | nontrapping-fptoint, bulk-memory | use --features nontrapping-fptoint,bulk-memory-opt, \
-        or compile with -mcpu=mvp\n\
+        table | nontrapping-fptoint, bulk-memory | use --features nontrapping-fptoint,bulk-memory, or \
+        compile with -mcpu=mvp\n\
     BadOpcode | any | opcode number | 00 to 07 | a saturating conversion | nontrapping-fptoint | use --features \
         nontrapping-fptoint, or compile with -mno-nontrapping-fptoint\n\
-    BadOpcode | any | opcode number | 08 to 09 | memory.init or data.drop | bulk-memory | compile with \
-        -mno-bulk-memory\n\
+    BadOpcode | any | opcode number | 08 to 09 | memory.init or data.drop | bulk-memory | use --features \
+        bulk-memory, or compile with -mno-bulk-memory\n\
     BadOpcode | any | opcode number | 0a to 0b | memory.copy or memory.fill | bulk-memory-opt | use --features \
         bulk-memory-opt, or compile with -mcpu=mvp\n\
-    BadOpcode | any | opcode number | 0c to 0e | table.init, elem.drop or table.copy | bulk-memory | compile with \
-        -mcpu=mvp\n\
+    BadOpcode | any | opcode number | 0c to 0e | table.init, elem.drop or table.copy | bulk-memory | use --features \
+        bulk-memory, or compile with -mcpu=mvp\n\
     BadOpcode | any | opcode number | 0f to 11 | table.grow, table.size or table.fill | reference-types | compile with \
         -mno-reference-types\n\
-    SectionId | any | any | 0c | a data count section | bulk-memory | compile with -mno-bulk-memory\n\
+    SectionId | any | any | 0c | a data count section | bulk-memory | use --features bulk-memory, or compile with \
+        -mno-bulk-memory\n\
     Index | data | number | 01 to 02 | no such index; if it is the first number of a segment, a later \
-        form | bulk-memory | compile with -mno-bulk-memory\n\
-    Index | element | number | 01 to 07 | no such index; if it is the first number of a segment, a later \
-        form | bulk-memory, reference-types | compile with -mcpu=mvp\n\
+        form | bulk-memory | use --features bulk-memory, or compile with -mno-bulk-memory\n\
+    Index | element | number | 01 to 02 | no such index; if it is the first number of a segment, a later \
+        form | bulk-memory | use --features bulk-memory, or compile with -mcpu=mvp\n\
+    Index | element | number | 03 to 07 | no such index; if it is the first number of a segment, a later \
+        form | reference-types | compile with -mcpu=mvp\n\
+    BadNumber | element | number | 03 to 07 | if it is the first number of a segment, a declarative one or one \
+        of expressions | reference-types | compile with -mno-reference-types\n\
     BadByte | code | table byte | 80 | a table index of more than one byte | \
         call-indirect-overlong | use --features call-indirect-overlong, or compile with -mcpu=mvp\n\
     BadByte | code | table byte | 01 to 7f | a table other than the first | reference-types | \
@@ -78,7 +83,8 @@ pub const OF_FEATURES: &str = "\
         without -fwasm-exceptions\n\
     BadByte | any | value type | 69 | the type exnref | exception-handling | compile without \
         -fwasm-exceptions\n\
-    BadByte | any | kind | 04 | a tag | exception-handling | compile without -fwasm-exceptions\n\
+    BadByte | import | kind | 04 | a tag | exception-handling | compile without -fwasm-exceptions\n\
+    BadByte | export | kind | 04 | a tag | exception-handling | compile without -fwasm-exceptions\n\
     SectionId | any | any | 0d | a tag section | exception-handling | compile without \
         -fwasm-exceptions\n\
     Arity | global | number | any | a second instruction in a constant expression | extended-const | \
@@ -234,6 +240,7 @@ pub fn section_name(id: u8) -> &'static str {
         9 => "element",
         10 => "code",
         11 => "data",
+        12 => "data count",
         _ => "unknown",
     }
 }

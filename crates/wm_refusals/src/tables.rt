@@ -13,39 +13,48 @@ pub const OF_MODULES: &str = "\
         with `--limit 8` `00`: refused at 9 | Set a greater `--limit`, or give a smaller input.\n\
     Truncated | The input ends inside the header or a section. | 5.5.2, 5.5.15 | `00`: refused at 9 \
         | The file was cut off. Write or fetch it again.\n\
-    SectionId | A section's id is above 11. | 5.5.2 | `0C`: refused at 9 | Build for WebAssembly \
-        1.0. The ids 12 (data count) and 13 (tag) came later.\n\
+    SectionId | A section's id is above 11, or above 12 with the feature `bulk-memory`. | 5.5.2 | \
+        `0C`: refused at 9 | For the id 12 (data count) use `--features bulk-memory`. The id 13 \
+        (tag) is later: turn exception handling off.\n\
     SectionOrder | A section appears twice, or after a section that must follow it. The order is \
-        type, import, function, table, memory, global, export, start, element, code, data. Custom \
-        sections may appear anywhere. | 5.5.2, 5.5.15 | `01 01 00 01`: refused at 12 | Write each \
-        section once, in this order.\n\
+        type, import, function, table, memory, global, export, start, element, data count, code, \
+        data. Custom sections may appear anywhere. | 5.5.2, 5.5.15 | `01 01 00 01`: refused at 12 | \
+        Write each section once, in this order.\n\
     SectionEnd | A section's contents do not match its size: they need more bytes, or bytes are left \
         over. | 5.5.2 | `00 00`: refused at 10 | Correct the size in the section header.\n\
     CodeCount | The number of function bodies differs from the number of declared functions. Or \
         functions are declared, but the data section or the end of the input comes without a code \
         section before it. | 5.5.15 | `0A 01 01`: refused at 11 | Give the function section and the \
         code section the same count.\n\
+    DataCount | The number of data segments differs from that in the data count section. Or the \
+        section gives a number above 0, and the input ends without a data section. | WebAssembly 2.0 \
+        5.5.15 | with `--features bulk-memory` `0C 01 01`: refused at 11 | Write the number of data \
+        segments into the data count section.\n\
     BadNumber | An integer has more bytes than its type allows, or its value does not fit the type. \
-        Or the table index of a `call_indirect` is not 0. | 5.2.2 | `00 80 80 80 80 10`: refused at 14 \
-        | Write the integer in LEB128, in at most 5 bytes for 32 bits and 10 for 64. For a call through \
-        another table, turn reference types off.\n\
+        Or a table index in an instruction is not 0, or the flag of a segment is above 2. | 5.2.2 | \
+        `00 80 80 80 80 10`: refused at 14 | Write the integer in LEB128, in at most 5 bytes for 32 \
+        bits and 10 for 64. For another table or a later form of an element segment, turn reference \
+        types off.\n\
     BadUtf8 | A name is not UTF-8. Its last byte decides. | 5.2.4 | `00 02 01 80`: refused at 12 | \
         Encode names in UTF-8.\n\
     BadByte | This byte is not allowed here. One of these must come: `60` for a function type, a \
-        value type, a block type, the element type `70`, a kind, a flag, or a `00` of some \
-        instructions. | 5.3, 5.4, 5.5 | `01 02 01 00`: refused at 12 | The module may use a later \
-        feature, such as reference types, shared memories or several memories. Turn it off.\n\
+        value type, a block type, the element type `70`, the element kind `00`, a kind, a flag, or a \
+        `00` of some instructions. | 5.3, 5.4, 5.5 | `01 02 01 00`: refused at 12 | The module may \
+        use a later feature, such as reference types, shared memories or several memories. Turn it \
+        off.\n\
     Float | The module uses a floating-point type or instruction, but the profile has none. | 5.3.1, \
         5.4 | `06 02 01 7D`: refused at 12 | The module may be valid. Use `--profile 3`, or \
         `--profile 4` for sign extension too.\n\
     BadOpcode | No instruction of the profile begins with this byte. Or it follows `FC`, and no \
-        instruction of the profile has it there. | 5.4 | `06 04 01 7F 00 06`: refused at 14 | For sign \
-        extension (`C0` to `C4`) use `--profile 2`, or `4` with floats. `--features` adds some later \
-        instructions. Turn other later features off.\n\
-    Index | An index is out of range: there is no such type, function, table, memory, global, local \
-        or label. The initial value of a global may name imported globals only. | 3.1.1, 3.3, 3.4 | \
-        `08 01 00`: refused at 11 | Declare the item, or correct the index. Memory instructions and \
-        data segments need a memory; `call_indirect` and element segments need a table.\n\
+        instruction of the profile has it there. | 5.4 | `06 04 01 7F 00 06`: refused at 14 | For \
+        instructions that compilers use by default, such as sign extension (`C0` to `C4`), use \
+        `--features compilers`. Turn other later features off.\n\
+    Index | An index is out of range: there is no such type, function, table, memory, global, local, \
+        label or segment. The initial value of a global may name imported globals only. | 3.1.1, \
+        3.3, 3.4 | `08 01 00`: refused at 11 | Declare the item, or correct the index. Instructions \
+        on a memory and active data segments need a memory; those on a table and active element \
+        segments need a table. An instruction that names a data segment needs a data count \
+        section.\n\
     Limits | The limits of a table or memory are out of range: the minimum is above the maximum, or \
         a memory has more than 65,536 pages. | 3.2.1, 3.2.3, 3.2.4 | `05 04 01 01 01 00`: refused at \
         14 | Correct the minimum or the maximum.\n\

@@ -1,4 +1,4 @@
-use Rattle.std.proofs.Common.{◌≡◌, ◌∙◌, ◌+◌, ◌*◌, ◌/◌, ◌%◌, ℕ, MatchOption, None, Option, Some, arith, subst}
+use Rattle.std.proofs.Common.{◌≡◌, ◌+◌, ◌*◌, ◌/◌, ◌%◌, ℕ, MatchOption, None, Option, Some, arith, subst}
 use Rattle.wm_c.specs.Codes.{AddsBits, IsProfileCode, NumbersProfile, bit_features}
 use Rattle.wm_syntax.specs.declared.profile.Profile.{Profile}
 use Rattle.wm_c.proofs.Bits.{bits_part, low_part, match_weaker}
