@@ -58,10 +58,10 @@ wm_syntax Import: *module_name: String, *item_name: String, desc: ImportDesc
 wm_syntax Function: type_index: u32, *locals: Locals, *body: Body
 wm_syntax GlobalDef: ty: GlobalType, init: Const
 wm_syntax Export: *name: String, kind: ExportKind, index: u32
-wm_syntax Element: table: u32, offset: Const, *functions: Vec<u32>
-wm_syntax Segment: memory: u32, offset: Const, *bytes: Vec<u8>
+wm_syntax Element: mode: SegmentMode, *functions: Vec<u32>
+wm_syntax Segment: mode: SegmentMode, *bytes: Vec<u8>
 wm_syntax Locals: *runs: Vec<Run>
-wm_syntax SizedOps: *ops: Vec<Op>, len: u64
+wm_syntax SizedOps: *ops: Vec<Op>, len: u64, names_segment: bool
 wm_syntax Body: *ops: SizedOps
 wm_syntax BodyBuilder: *ops: SizedOps, *begun: Vec<Opened>, left: u64
 wm_stacks Packed: *words: SmallVec<u64, 2>, current: u64, height: usize, full: usize, floor: usize, low: usize
@@ -74,7 +74,7 @@ wm_typing TypeEntry: start: usize, count: usize, result: Option<ValType>
 wm_typing DeclaredLocals: *table: RunTable, known: KnownLocals, probes: u64
 wm_typing BodyChecker: function: Function, *declared: DeclaredLocals, *stacks: Stacks, table: Option<BrTable>, most: Most, refused: Option<Why>, apart: bool
 wm_decode Decoder: *sink: S, machine: Machine, *name: Vec<u8>, at: u64, max_bytes: u64, profile: Profile
-wm_rules Spaces: *types: FuncTypes, *functions: Vec<u32>, *globals: Vec<GlobalType>, imported_functions: usize, imported_globals: usize, bodies: usize, table: bool, memory: bool
+wm_rules Spaces: *types: FuncTypes, *functions: Vec<u32>, *globals: Vec<GlobalType>, imported_functions: usize, imported_globals: usize, bodies: usize, table: bool, memory: bool, elements: u32, segments: u32
 wm_rules ExportNames: alloc: Global, *names: BTreeSet<HashedName>, kept: u64
 wm_rules HashedName: hash: u64, *name: Vec<u8>
 wm_rules Rules: *spaces: Spaces, *names: ExportNames, constant: Option<Constant>, *body: BodyChecker, in_body: bool, most: BodyStats

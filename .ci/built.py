@@ -6,7 +6,8 @@ It ends with status 1 if a test fails. The programs of both compilers are tested
 
 - growths.py refuses each allocation of wmod and of wm_rows in turn;
 - deep.py reads a million nested blocks;
-- command.py runs wmod with rows of arguments, files and outputs.
+- command.py runs wmod with rows of arguments, files and outputs;
+- console.py plays the console samples of the pages.
 
 Then `rt lib` builds the library for C, which `rt ci` proves but does not write. It proves again all that no check on
 this machine has kept. c_calls.py compares the library with wmod, and packages.py tests the installed files.
@@ -20,6 +21,7 @@ import sys
 sys.dont_write_bytecode = True
 import c_calls
 import command
+import console
 import deep
 import growths
 import packages
@@ -53,7 +55,7 @@ def print_tally():
 
 
 def main():
-    is_well = [does(it) for it in programs("wm_cli") for does in (growths.sweep, growths.sweep_several, growths.is_name_lent, growths.is_long_list_let_go, growths.is_empty_body_free, deep.is_well, command.is_well)]
+    is_well = [does(it) for it in programs("wm_cli") for does in (growths.sweep, growths.sweep_several, growths.is_name_lent, growths.is_long_list_let_go, growths.is_empty_body_free, deep.is_well, command.is_well, console.is_well)]
     is_well += [growths.sweep_rows(it) for it in programs("wm_rows")]
     print_tally()
     wmod = programs("wm_cli")[0]

@@ -41,7 +41,7 @@ MODULES = 1000
 STACK = 64
 # the rows of calls, and their least number, so that no row is lost by accident
 ROWS = os.path.join(HERE, "c_rows.txt")
-LEAST = 271
+LEAST = 370
 # the inputs that c_rows.txt names: a function that adds two numbers, one that extends a byte, a text with a keyword of
 # older tools, and a text whose module is not valid
 INPUTS = {
@@ -218,7 +218,9 @@ def hinted():
     for words, given, line in command.details():
         options = dict(re.findall(r"--(\S+) (\S+)", words))
         if words.startswith("wmod check"):
-            profile = int(options.get("profile", 1)) + sum(numbers[word] for word in options.get("features", "").split(",") if word)
+            profile = int(options.get("profile", 1))
+            for word in filter(None, options.get("features", "").split(",")):
+                profile |= numbers[word]
             calls = [f"begin {profile} {options.get('limit', 1000)}", f"feed {given.hex().upper() or '.'}", f"hint {CAPACITY}"]
             yield calls, "\n".join(next((it for end, it in ends.items() if line.endswith(end)), ()))
 

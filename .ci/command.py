@@ -20,12 +20,21 @@ import refusals
 
 # the rows, and their least number, so that no row is lost by accident
 ROWS = pathlib.Path(__file__).resolve().parent / "command_rows.txt"
-LEAST = 330
+LEAST = 416
 TYPED = b"(module)"
-SIGN = bytes.fromhex("0061736D01000000 01050160 00017F 03020100 0A08010600 41FF01 C0 0B")
+HEADER = bytes.fromhex("0061736D01000000")
+SIGN = HEADER + bytes.fromhex("01050160 00017F 03020100 0A08010600 41FF01 C0 0B")
+# 13 functions, and a table. The last function has a call_indirect whose table index has five bytes, from 0x160.
+PLUGIN = HEADER + bytes.fromhex(f"010401600000 030E0D{'00' * 13} 040401700001 0ABF020D {'02000B' * 12} 980200{'01' * 269} 41001100 8080808000 0B")
+# the same behind a custom section of 10,003 bytes, so that the program reads it in several pieces
+FAR = HEADER + bytes.fromhex("00904E") + bytes(10_000) + PLUGIN[len(HEADER) :]
+# the bytes of a name that takes more memory than a run with `memory` has
+LONG = 1 << 26
 # what each run finds in its folder
 FILES = {
     b"sign.wasm": SIGN,
+    b"plugin.wasm": PLUGIN,
+    b"far.wasm": FAR,
     b"old.wat": b"(module (table 1 anyfunc))",
     b"bare.wat": b"(module)",
     b"kept.wasm": b"kept",
@@ -38,6 +47,39 @@ FILES = {
     b"empty.txt": b"",
     b"input.txt": b"sign.wasm\n-\n",
     b"folder/there": b"",
+}
+
+
+def long(front):
+    """Returns what makes a file of these bytes and LONG zeros, which take no room on the disk."""
+
+    def made(path):
+        path.write_bytes(front)
+        os.truncate(path, len(front) + LONG)
+
+    return made
+
+
+def taken(count):
+    """Returns what makes the first files that `--output` would make beside a file of this name."""
+
+    def made(path):
+        for n in range(count):
+            pathlib.Path(f"{path}.wmod-tmp-{n}").write_bytes(b"taken")
+
+    return made
+
+
+# what makes a file that only the runs which name it find: two more names of kept.wasm, a pipe, names of --output that are
+# taken, a module with a long name, and a list with a long name
+MADE = {
+    b"link.wasm": lambda path: path.symlink_to("kept.wasm"),
+    b"other.wasm": lambda path: os.link(path.with_name("kept.wasm"), path),
+    b"pipe": os.mkfifo,
+    b"second.wasm": taken(1),
+    b"none.left": taken(100),
+    b"long.wasm": long(HEADER + bytes.fromhex("00 84808020 80808020")),
+    b"long.txt": long(b"sign.wasm\n"),
 }
 # the most files that a run may have open at once
 HANDLES = 16
@@ -88,13 +130,29 @@ def closed_pipe():
 FAILING = {b"shut": closed_pipe, b"full": lambda: os.open("/dev/full", os.O_WRONLY)}
 
 
-def limited(size):
-    """Limits the open files of this process, and the size of each file that it writes unless `size` is None."""
+# what a number before the words of a run limits: the bytes of each file that it writes, and its memory in MiB
+LIMITED = {b"within": (resource.RLIMIT_FSIZE, 1), b"memory": (resource.RLIMIT_AS, 1 << 20)}
+
+
+def limited(words):
+    """Limits the open files of this process, and what the first two words of a row limit."""
     resource.setrlimit(resource.RLIMIT_NOFILE, (HANDLES, HANDLES))
-    if size is not None:
+    if words[0] in LIMITED:
         # a write past the limit is then an error and no signal
         signal.signal(signal.SIGXFSZ, signal.SIG_IGN)
-        resource.setrlimit(resource.RLIMIT_FSIZE, (size, size))
+        kind, unit = LIMITED[words[0]]
+        resource.setrlimit(kind, (int(words[1]) * unit,) * 2)
+
+
+def fill(folder, words):
+    """Makes the files that the run of these words finds."""
+    for name, bytes_of in FILES.items():
+        path = pathlib.Path(folder, os.fsdecode(name))
+        path.parent.mkdir(exist_ok=True)
+        path.write_bytes(bytes_of)
+    for name, make in MADE.items():
+        if name in words:
+            make(pathlib.Path(folder, os.fsdecode(name)))
 
 
 def held(folder):
@@ -112,27 +170,25 @@ def changes(before, after):
 
 def played(program, words, given, folder):
     """Runs the words of a row in a folder. Returns the status and outputs in the form of a row."""
-    size = int(words[1]) if words[0] == b"within" else None
     failing = FAILING.get(words[0])
     out = failing() if failing else subprocess.PIPE
     # (the usage in a complaint has the name by which the program is called)
     named = [b"wmod", *words[words.index(b"wmod") + 1 :]]
-    ran = subprocess.run(named, executable=program, input=given, stdout=out, stderr=subprocess.PIPE, cwd=folder, timeout=60, check=False, preexec_fn=lambda: limited(size))
+    ran = subprocess.run(named, executable=program, input=given, stdout=out, stderr=subprocess.PIPE, cwd=folder, timeout=60, check=False, preexec_fn=lambda: limited(words))
     if failing:
         os.close(out)
     return f"{ran.returncode} {escaped(ran.stdout or b'')} {escaped(ran.stderr)}"
 
 
 def answer(program, command):
-    """Runs the command of a row in a folder that has `FILES`. Returns its answer in the form of a row."""
+    """Runs the command of a row in a folder that has `FILES`, and those of `MADE` that it names. Returns its answer in the
+    form of a row."""
     words, given = parts(command)
     with tempfile.TemporaryDirectory(prefix="command-") as folder:
-        for name, bytes_of in FILES.items():
-            path = pathlib.Path(folder, os.fsdecode(name))
-            path.parent.mkdir(exist_ok=True)
-            path.write_bytes(bytes_of)
+        fill(folder, words)
+        before = held(folder)
         said = played(program, words, given, folder)
-        return said + changes(FILES, held(folder))
+        return said + changes(before, held(folder))
 
 
 def details():

@@ -48,12 +48,16 @@ MODULES = {
 TEXT = r'(module (memory $mem0 1) (data $mem0 (offset i32.const 0) "\00\u{e9}\""))'
 OLDER = "(module (type (func)) (memory 1) (func (type 0) (local i32) current_memory set_local 0))"
 
-# modules of one feature each, by its word: a call_indirect whose table index has five bytes, a truncation that saturates,
-# memory.fill and memory.copy
+# a module for each feature, by its word: a call_indirect whose table index has five bytes, a truncation that saturates,
+# memory.fill and memory.copy, passive segments and their instructions, and all features at once
 OF_FEATURES = {
     "call-indirect-overlong": f"{NONE} 04 04 01 70 00 01 0A 0D 01 0B 00 41 00 11 00 80 80 80 80 00 0B",
     "nontrapping-fptoint": f"{NONE} 0A 0C 01 0A 00 43 00 00 00 00 FC 00 1A 0B",
     "bulk-memory-opt": f"{NONE} 05 03 01 00 01 0A 18 01 16 00 41 00 41 00 41 00 41 00 41 00 41 00 FC 8B 00 00 FC 0A 00 00 0B",
+    "bulk-memory": f"{NONE} 04 04 01 70 00 01 05 03 01 00 01 09 05 01 01 00 01 00 0C 01 01 0A 29 01 27 00 41 00 41 00 41 00 FC 08 00 00 FC 09 00 "
+    "41 00 41 00 41 00 FC 0C 00 80 00 FC 0D 00 41 00 41 00 41 00 FC 0E 00 00 0B 0B 04 01 01 01 61",
+    "compilers": f"{NONE} 04 04 01 70 00 01 05 03 01 00 01 09 04 01 01 00 00 0C 01 01 0A 26 01 24 00 43 00 00 00 00 FC 00 C0 1A 41 00 11 00 80 80 80 80 00 "
+    "41 00 41 00 41 00 FC 0A 00 00 FC 09 00 FC 0D 00 0B 0B 03 01 01 00",
 }
 
 # the bytes of one read (PIECE of wm_rules), a custom section with a name, and its offsets at which a piece's end cuts

@@ -48,7 +48,7 @@ COMPLETED = {
     ("canon", "-o", ""): "",
     ("check", "--profile", ""): "1 2 3 4",
     ("check", "--profile", "=", ""): "1 2 3 4",
-    ("check", "--features", ""): "sign-ext call-indirect-overlong nontrapping-fptoint bulk-memory-opt help",
+    ("check", "--features", ""): "sign-ext call-indirect-overlong nontrapping-fptoint bulk-memory-opt bulk-memory compilers help",
     ("check", "--features", "=", "s"): "sign-ext",
     ("check", "--features", "sign-ext,"): "",
     ("build", "--f"): "--features",
@@ -295,10 +295,27 @@ def check_completions(it):
         script = f'compopt() {{ :; }}; . "{file}"; COMP_WORDS=(wmod "$@"); COMP_CWORD=$#; _wmod; echo "${{COMPREPLY[*]}}"'
         same(f"bash completes {words}", run("bash", "-c", script, "bash", *words), f"{wanted}\n")
     if it.has("zsh"):
-        run("zsh", "-n", it.to / "share/zsh/site-functions/_wmod")
+        check_zsh(it, names)
     if it.has("fish"):
-        ask = f"source {it.to}/share/fish/vendor_completions.d/wmod.fish; complete -C 'wmod c'"
-        same("fish completes", [line.split()[0] for line in run("fish", "-N", "-c", ask).splitlines()], ["canon", "check"])
+        check_fish(it, names)
+
+
+def check_zsh(it, names):
+    """Checks that the completion for zsh offers each NAME after `explain`, and files after another action."""
+    file = it.to / "share/zsh/site-functions/_wmod"
+    run("zsh", "-n", file)
+    # zsh calls the file as a function, which gives what it offers to a function of zsh
+    script = '_arguments() { print -rl -- "$@" }; fpath=("$1"); autoload -U _wmod; words=("${@:2}"); _wmod'
+    for action, wanted in (("explain", f"2:NAME:({' '.join(dict.fromkeys(names))})"), ("check", "*:file:_files")):
+        offered = run("zsh", "-f", "-c", script, "zsh", file.parent, "wmod", action, "").splitlines()
+        same(f"zsh completes {action}", offered[-2:], ["1:action:_wmod_actions", wanted])
+
+
+def check_fish(it, names):
+    """Checks that the completion for fish offers each action, and each NAME after `explain`."""
+    for line, wanted in (("wmod c", ["canon", "check"]), ("wmod explain ", sorted(set(names)))):
+        ask = f"source {it.to}/share/fish/vendor_completions.d/wmod.fish; complete -C '{line}'"
+        same(f"fish completes {line}", sorted(it.split()[0] for it in run("fish", "-N", "-c", ask).splitlines()), wanted)
 
 
 def cargo(crate, env, *words, wanted=0):

@@ -34,17 +34,17 @@ OPTIONS = "rust/src/options.rs"
 INPUTS = "# The smallest inputs of the refusals"
 TEXTS = "# The smallest texts of the refusals"
 
-# the names without a smallest input: the first needs gigabytes of text, the second gigabytes of module, and the third
-# is never printed
+# the names without a smallest input: the first needs gigabytes of text, the second gigabytes of module, and the last is
+# never printed
 WITHOUT_INPUT = ["TooManyLocals", "TooLarge", "Memory"]
 
 
 def rows_of_page(page):
     """Yields the name in each row of the first table, and the line that wm_rows must write for it."""
-    row = re.compile(r"^\| `(\w+)` \|.*\| (with no header |with `--(?:limit|max-functions|max-locals|max-open) \d+` |)`((?:[0-9A-F]{2} ?)+)`: (refused at \d+) \|", re.M)
+    row = re.compile(r"^\| `(\w+)` \|.*\| (with no header |with `--(?:limit|max-functions|max-locals|max-open) \d+` |with `--features [\w-]+` |)`((?:[0-9A-F]{2} ?)+)`: (refused at \d+) \|", re.M)
     for word, kind, digits, place in row.findall(page):
         header = "" if kind == "with no header " else "H "
-        option = re.sub(r"with `--(.*)` ", r"\1 ", kind) if header else ""
+        option = re.sub(r"with `--(.*)` ", r"\1 ", kind).replace("features ", "profile 1+") if header else ""
         yield word, f"check {option}{header}{digits} = {place}: {word}"
 
 
@@ -113,7 +113,7 @@ def unlike_features(top):
     table = re.search(r"^\| --features \| Adds \|\n\|---\|---\|\n((?:\|.*\n)*)", text[COMMAND], re.M)
     found = {
         COMMAND: re.findall(r"^\| ([\w-]+) \| (.+) \|$", table[1], re.M) if table else [],
-        HEADER: [it for name, *it in re.findall(r"^#define (WMOD_\w+) 0x\d+u /\* ([\w-]+): (.+) \*/$", text[HEADER], re.M) if name == constant_of(it[0])],
+        HEADER: [it for name, *it in re.findall(r"^#define (WMOD_\w+) 0x[\dA-F]+u /\* ([\w-]+): (.+) \*/$", text[HEADER], re.M) if name == constant_of(it[0])],
         OPTIONS: re.findall(r"^ +/// ([\w-]+): (.+)\.\n +\w+,$", text[OPTIONS], re.M),
     }
     lost = [] if rows else [f"{FEATURES} has no row"]
@@ -126,10 +126,10 @@ def constant_of(word):
 
 
 def features_of_header(top):
-    """Yields each word of `--features` with its bit in the header."""
-    for name, bit, word in re.findall(r"^#define (WMOD_\w+) (0x\d+)u /\* ([\w-]+): ", (top / HEADER).read_text(encoding="utf8"), re.M):
+    """Yields each word of `--features` with its bits in the header."""
+    for name, bits, word in re.findall(r"^#define (WMOD_\w+) (0x[\dA-F]+)u /\* ([\w-]+): ", (top / HEADER).read_text(encoding="utf8"), re.M):
         if name == constant_of(word):
-            yield word, int(bit, 16)
+            yield word, int(bits, 16)
 
 
 def rows_of_crate(top):

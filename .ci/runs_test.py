@@ -8,7 +8,7 @@ It prints each trial that went wrong, and ends with status 1 if there is one. Ea
 then on input with one fault, which it has to find:
 
 - the scripts that read the tree get changed copies of their files (script_trials.py);
-- growths.py, deep.py and command.py get stand-ins for wmod and wm_rows, and c_calls.py one for c_rows;
+- growths.py, deep.py, command.py and console.py get stand-ins for wmod and wm_rows, and c_calls.py one for c_rows;
 - wm_rows and the tests of wm_cli get libraries with a must-fail edit.
 """
 import contextlib
@@ -24,6 +24,7 @@ import tempfile
 sys.dont_write_bytecode = True
 import c_calls
 import command
+import console
 import deep
 import edits
 import growths
@@ -140,6 +141,19 @@ TRIALS_OF_COMMANDS = {
     "standard output on a full device": ("full wmod check", '3 "" ""', "echo valid 2>/dev/null || exit 3", True),
     "a full device that is forgotten": ("full wmod check", '3 "" ""', "echo valid 2>/dev/null; exit 0", False),
     "words that are alike": ("wmod check a*3", '0 "4\\n" ""', "echo $#", True),
+    "a limit of memory": ("memory 100 wmod check", '0 "102400\\n" ""', "ulimit -v", True),
+    "a link": ("wmod check link.wasm", '0 "kept" ""', "cat link.wasm", True),
+    "a link in another row": ("wmod check", '1 "" ""', "cat link.wasm 2>/dev/null", True),
+    "a link that is written through": ("wmod canon link.wasm", '0 "" "" "link.wasm"="new"', "printf new > link.wasm", False),
+}
+
+# a page with a console sample, the commands of a stand-in for wmod, and whether console.py accepts them
+TRIALS_OF_CONSOLE = {
+    "nothing wrong": ("```\n$ ./wmod check\nvalid\n$ ./wmod stats\nvalid\n```\n", "echo valid", True),
+    "another line": ("```\n$ ./wmod check\nvalid\n```\n", "echo no", False),
+    "a line on standard error that the page lacks": ("```\n$ ./wmod check\nvalid\n```\n", "echo valid; echo no >&2", False),
+    "the second of two": ("```\n$ ./wmod check a\na\n$ ./wmod check b\na\n```\n", "echo $2", False),
+    "no sample": ("```\nvalid\n```\n", "echo no", True),
 }
 
 # the commands of a stand-in for wmod that gets one row of detail and the NAME `Kind`, and whether command.py accepts it
@@ -257,6 +271,9 @@ def trials_of_commands(room):
     for name, (words, answer, does, wanted) in TRIALS_OF_COMMANDS.items():
         if (command.answer(commanded(room, does), words) == answer) != wanted:
             yield f"command.py and a stand-in: {name}"
+    for name, (page, does, wanted) in TRIALS_OF_CONSOLE.items():
+        if (not list(console.wrong(commanded(room, does), page))) != wanted:
+            yield f"console.py and a stand-in: {name}"
     command.details = lambda: [("wmod check", b"", LINE)]
     command.sentences = lambda: {"Kind": SENTENCE}
     for tried, trials in ((command.has_details, TRIALS_OF_DETAILS), (command.explains_all, TRIALS_OF_SENTENCES)):

@@ -18,6 +18,7 @@ sys.dont_write_bytecode = True
 import believed
 import c_calls
 import command
+import console
 import definitions
 import edits
 import growths
@@ -114,6 +115,7 @@ TRIALS_OF_WORDS = {
 PAGE, TABLE, ROWS = refusals.PAGE, refusals.TABLE, refusals.ROWS
 TRIALS_OF_REFUSALS = {
     "an input that is not run": (PAGE, r"`01`: refused at 1 \|", "`02`: refused at 1 |", f"only in {PAGE}: check 02 = refused at 1: Magic"),
+    "a feature with which it is not run": (PAGE, r"with `--features bulk-memory` `0C", "with `--features compilers` `0C", f"only in {PAGE}: check profile 1+compilers H 0C 01 01"),
     "an offset that is not answered": (PAGE, r"`01`: refused at 1 \|", "`01`: refused at 2 |", f"only in {PAGE}: check 01 = refused at 2: Magic"),
     "an input that is on no page": (ROWS, rf"({re.escape(refusals.INPUTS)})\n", r"\1\ncheck 03 = refused at 1: Magic\n", f"only in {ROWS}: check 03"),
     "a word without a row": (PAGE, r"(?m)^\| `Magic` \|.*\n", "", f"0 rows in {PAGE} for the word Magic"),
@@ -130,6 +132,7 @@ TRIALS_OF_REFUSALS = {
     "another word of --features": (refusals.COMMAND, r"\| `sign-ext` \|", "| `sign` |", f"other words of --features in {refusals.COMMAND} than in"),
     "another sentence of a feature": (refusals.HEADER, r"sign-ext: the five", "sign-ext: the six", f"other words of --features in {refusals.HEADER} than in"),
     "a feature under another name": (refusals.HEADER, r"WMOD_SIGN_EXT 0x", "WMOD_SIGN 0x", f"other words of --features in {refusals.HEADER} than in"),
+    "several bits under another name": (refusals.HEADER, r"WMOD_COMPILERS 0x", "WMOD_COMPILER 0x", f"other words of --features in {refusals.HEADER} than in"),
     "a feature that the crate lacks": (refusals.OPTIONS, r"/// `sign-ext`: ", "/// ", f"other words of --features in {refusals.OPTIONS} than in"),
     "no row of features": (refusals.FEATURES, r"[\s\S]+", "", f"{refusals.FEATURES} has no row"),
     "another sentence of the crate": (refusals.CRATE, r"/// One of the first", "/// None of the first", f"another sentence in {refusals.CRATE} than in {TABLE}: Magic"),
@@ -139,8 +142,8 @@ TRIALS_OF_REFUSALS = {
     "a refusal that the crate does not know": (
         refusals.HEADER,
         r"  WMOD_WHY_TOO_LARGE",
-        "  WMOD_WHY_LATER = 31, /* Later */\n  WMOD_WHY_TOO_LARGE",
-        f"not in both {refusals.HEADER} and {refusals.CRATE}: 31 Later Later",
+        "  WMOD_WHY_LATER = 32, /* Later */\n  WMOD_WHY_TOO_LARGE",
+        f"not in both {refusals.HEADER} and {refusals.CRATE}: 32 Later Later",
     ),
 }
 LIBRARY = "docs/LIBRARY.md"
@@ -319,6 +322,10 @@ def trials_of_rows(room):
     c_calls.ROWS = command.ROWS = empty
     if c_calls.are_rows_right(room) or command.has_rows(str(program)):
         yield "c_calls.py or command.py: a file of rows is empty"
+    pages, console.PAGES = console.PAGES, []
+    if console.is_well(str(program)):
+        yield "console.py: there are no samples"
+    console.PAGES = pages
     lines = pathlib.Path(rows[0]).read_text(encoding="ascii").splitlines(keepends=True)
     empty.write_text("".join(lines[:-1]), encoding="ascii")
     if c_calls.are_rows_right(room):
@@ -326,16 +333,23 @@ def trials_of_rows(room):
     c_calls.ROWS, command.ROWS = rows
 
 
-# a stand-in for `rt` in a first build: it writes down each crate that it is called for, and fails for one
+# a stand-in for `rt` in a first build: it writes down each crate that it is called for and how many others run, and
+# fails for one crate
 NOTING_RT = """#!/bin/sh
+if [ "$1" = version ]; then echo "$KIT logic 0"; exit; fi
+mkdir -p "$NOTED.running"
+echo "$PWD" > "$NOTED.running/$$"
+sleep 0.2
+ls "$NOTED.running" | wc -l >> "$NOTED.beside"
+rm "$NOTED.running/$$"
 crate=$(basename "$PWD")
 echo "$crate" >> "$NOTED"
 [ "$crate" != "$FAILING" ]
 """
 
 
-def first_build(room, lines, failing=""):
-    """Runs packaging/build.py with these lines in crates.txt. Returns its status, and the crates given to `rt`."""
+def first_build(room, lines, failing="", kit="another-kit"):
+    """Runs packaging/build.py with these lines in crates.txt. Returns its status, the crates given to `rt`, and the most at once."""
     top = pathlib.Path(tempfile.mkdtemp(dir=room))
     shutil.copytree(TOP / "packaging", top / "packaging", ignore=shutil.ignore_patterns("__pycache__"))
     (top / "crates.txt").write_text("".join(f"{line}\n" for line in lines), encoding="utf-8")
@@ -344,21 +358,27 @@ def first_build(room, lines, failing=""):
     (top / "rt").chmod(0o755)
     for line in lines:
         (top / "crates" / line.partition(":")[0] / "src").mkdir(parents=True)
-    env = {**os.environ, "PATH": f"{top}:{os.environ['PATH']}", "NOTED": str(top / "noted"), "FAILING": failing}
+    env = {**os.environ, "PATH": f"{top}:{os.environ['PATH']}", "NOTED": str(top / "noted"), "FAILING": failing, "KIT": kit}
     ran = subprocess.run([sys.executable, "-B", top / "packaging/build.py", "top"], env=env, capture_output=True, check=False)
-    return ran.returncode, (top / "noted").read_text(encoding="utf-8").split()
+    beside = top / "noted.beside"
+    most = max(map(int, beside.read_text(encoding="utf-8").split())) if beside.exists() else 0
+    return ran.returncode, (top / "noted").read_text(encoding="utf-8").split(), most
 
 
 def trials_of_build(room):
-    """Tests that a first build builds each crate once, after its dependencies, and fails for a bad crate or a cycle."""
+    """Tests that a first build builds each crate once, after its dependencies, and fails for a bad crate or a cycle.
+
+    With a kit whose copies share nothing, one crate is built at a time.
+    """
     lines = ["low:", "left: low", "right: low std", "top: left right", "beside: low"]
-    status, called = first_build(room, lines)
-    if status or sorted(called) != ["left", "low", "right", "top"] or called[0] != "low" or called[-1] != "top":
-        yield f"build.py: nothing is wrong: {status}, {called}"
-    status, called = first_build(room, lines, "left")
-    if status != 70 or "top" in called:
-        yield f"build.py: a crate fails: {status}, {called}"
-    status, called = first_build(room, ["low: top", *lines[1:]])
+    for kit, at_once in (("another-kit", {1, 2}), ("rattle-kit-13b", {1})):
+        status, called, most = first_build(room, lines, kit=kit)
+        if status or sorted(called) != ["left", "low", "right", "top"] or called[0] != "low" or called[-1] != "top" or most not in at_once:
+            yield f"build.py: nothing is wrong, {kit}: {status}, {called}, {most} at once"
+        status, called, _ = first_build(room, lines, "left", kit)
+        if status != 70 or "top" in called:
+            yield f"build.py: a crate fails, {kit}: {status}, {called}"
+    status, called, _ = first_build(room, ["low: top", *lines[1:]])
     if status != 70 or called:
         yield f"build.py: crates stand on one another: {status}, {called}"
 

@@ -13,8 +13,8 @@ has the ratio on a second input of another size and order. The script ends with 
 The rows are inputs that once got slower when others got faster: ops without a fast path, pieces of one byte or two,
 lists of short indices after a longer one, empty bodies, unreachable code, texts of one kind of token, refused texts.
 
-A row of `--later` has the instructions of wmod for each byte of two inputs, of the later instruction and of the one of
-1.0, and their ratio.
+A row of `--later` has the instructions of wmod for each byte of two inputs, of the later instruction or segment and of
+the one of 1.0, and their ratio.
 """
 import pathlib
 import re
@@ -32,13 +32,13 @@ from make_module import HEADER, I32, I64, MEMORY, NOTHING, SHAPES, WITH_FLOATS, 
 EMPTY_TEXT = b"(module)"
 
 
-def code(runs, one, memory=b""):
-    """Returns a maker of functions that repeat this code: one long function, or many short ones."""
+def code(runs, one, memory=b"", data=b""):
+    """Returns a maker of functions that repeat this code: one long function, or many short ones. `data` is a data section."""
 
     def made(numbers):
         if numbers.state == 1:
-            return module([NOTHING], [entry(runs, one * 20_000)], memory)
-        return module([NOTHING], [entry(runs, one * (1 + numbers.below(40))) for _ in range(900)], memory)
+            return module([NOTHING], [entry(runs, one * 20_000)], memory) + data
+        return module([NOTHING], [entry(runs, one * (1 + numbers.below(40))) for _ in range(900)], memory) + data
 
     return made
 
@@ -75,6 +75,11 @@ def elements(count, wide, segments_of_it=0):
         return HEADER + section(1, vector([NOTHING])) + functions + section(9, vector(segments)) + codes
 
     return made
+
+
+def segments(number, one, front):
+    """Returns a maker of a section of many segments that are alike, after these sections."""
+    return lambda numbers: HEADER + front + section(number, vector([one] * 20_000))
 
 
 def labels(count, wide):
@@ -187,15 +192,34 @@ ROWS = {
 
 
 ZERO_64, ZERO_32, THREE, TABLE = b"\x44" + bytes(8), b"\x43" + bytes(4), b"\x41\x00" * 3, section(4, vector([b"\x70\x00\x01"]))
-# the later instruction and its code, and the instruction of 1.0 and its code; a memory or a table that both need
+# a passive element segment, and one data segment with its count
+ELEMENT = TABLE + section(9, vector([b"\x01\x00\x00"]))
+COUNT, DATA = MEMORY + section(12, b"\x01"), section(11, vector([b"\x01\x01a"]))
+CHOICE = "select and drop", THREE + b"\x1b\x1a"
+CALL = "call", b"\x10\x00"
+
+
+def of_code(one, older, other, *sections):
+    """Returns the makers of a later instruction and of one of 1.0, with the name of the second."""
+    return code(LOCAL, one, *sections), older, code(LOCAL, other, *sections)
+
+
+# for a later instruction or segment: its maker, and the name and the maker of that of 1.0
 LATER = {
-    "i32.trunc_sat_f64_s": (ZERO_64 + b"\xfc\x02\x1a", "i32.trunc_f64_s", ZERO_64 + b"\xaa\x1a", b""),
-    "i64.trunc_sat_f32_u": (ZERO_32 + b"\xfc\x05\x1a", "i64.trunc_f32_u", ZERO_32 + b"\xaf\x1a", b""),
-    "memory.fill": (THREE + b"\xfc\x0b\x00", "select and drop", THREE + b"\x1b\x1a", MEMORY),
-    "memory.copy": (THREE + b"\xfc\x0a\x00\x00", "select and drop", THREE + b"\x1b\x1a", MEMORY),
-    "call_indirect, long index": (b"\x41\x00\x11\x00" + b"\x80" * 4 + b"\x00", "call_indirect", b"\x41\x00\x11\x00\x00", TABLE),
+    "i32.trunc_sat_f64_s": of_code(ZERO_64 + b"\xfc\x02\x1a", "i32.trunc_f64_s", ZERO_64 + b"\xaa\x1a"),
+    "i64.trunc_sat_f32_u": of_code(ZERO_32 + b"\xfc\x05\x1a", "i64.trunc_f32_u", ZERO_32 + b"\xaf\x1a"),
+    "memory.fill": of_code(THREE + b"\xfc\x0b\x00", *CHOICE, MEMORY),
+    "memory.copy": of_code(THREE + b"\xfc\x0a\x00\x00", *CHOICE, MEMORY),
+    "memory.init": of_code(THREE + b"\xfc\x08\x00\x00", *CHOICE, COUNT, DATA),
+    "data.drop": of_code(b"\xfc\x09\x00", *CALL, COUNT, DATA),
+    "table.init": of_code(THREE + b"\xfc\x0c\x00\x00", *CHOICE, ELEMENT),
+    "elem.drop": of_code(b"\xfc\x0d\x00", *CALL, ELEMENT),
+    "table.copy": of_code(THREE + b"\xfc\x0e\x00\x00", *CHOICE, ELEMENT),
+    "call_indirect, long index": of_code(b"\x41\x00\x11\x00" + b"\x80" * 4 + b"\x00", "call_indirect", b"\x41\x00\x11\x00\x00", TABLE),
+    "passive element segment": (segments(9, b"\x01\x00\x00", TABLE), "element segment", segments(9, b"\x00\x41\x00\x0b\x00", TABLE)),
+    "passive data segment": (segments(11, b"\x01\x01a", MEMORY), "data segment", segments(11, b"\x00\x41\x00\x0b\x01a", MEMORY)),
 }
-WITH_LATER = ["--profile", "4", "--features", "call-indirect-overlong,nontrapping-fptoint,bulk-memory-opt"]
+WITH_LATER = ["--features", "compilers"]
 
 
 def fed(program, words, given, piece):
@@ -272,9 +296,9 @@ def print_shapes(programs):
             print(f"| {shape} | {' | '.join(found)} |", flush=True)
 
 
-def a_byte(program, one, memory):
-    """Returns the instructions of wmod for each byte of a module of this code."""
-    given = code(LOCAL, one, memory)(Numbers(1))
+def a_byte(program, made):
+    """Returns the instructions of wmod for each byte of a module of this maker."""
+    given = made(Numbers(1))
     whole, nothing = (fed(program, ["check", *WITH_LATER], it, 0) for it in (given, HEADER))
     if whole[1][0]:
         sys.exit(f"refused: {whole[1]}")
@@ -282,9 +306,9 @@ def a_byte(program, one, memory):
 
 
 def print_later(program):
-    print("| Instruction | A byte | Instruction of 1.0 | A byte | Ratio |\n|---|---|---|---|---|", flush=True)
-    for name, (one, older, other, memory) in LATER.items():
-        new, old = a_byte(program, one, memory), a_byte(program, other, memory)
+    print("| Later | A byte | Of 1.0 | A byte | Ratio |\n|---|---|---|---|---|", flush=True)
+    for name, (made, older, other) in LATER.items():
+        new, old = a_byte(program, made), a_byte(program, other)
         print(f"| {name} | {new:.2f} | {older} | {old:.2f} | {new / old:.2f} |", flush=True)
 
 

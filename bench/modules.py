@@ -4,7 +4,9 @@
     modules.py [COUNT [SEED]] [--program=PATH] [--features=LIST]      10,000 modules and seed 1 by default
 
 LIST goes to `wmod check --features`. With `call-indirect-overlong` in it, table indices have up to five bytes. With
-`nontrapping-fptoint` or `bulk-memory-opt` in it, the modules have the instructions of that feature.
+`sign-ext`, `nontrapping-fptoint` or `bulk-memory-opt` in it, the modules have the instructions of that feature. With
+`bulk-memory` in it, they also have passive segments, a data count section, and the instructions that name segments.
+`compilers` stands for all of these words.
 
 Equal seeds give equal modules. One third is valid: each instruction fits the types of the operands on the stack, also
 in unreachable code. In another third one instruction is dropped, doubled, swapped with the next one or replaced. In the
@@ -42,11 +44,15 @@ console.log(JSON.stringify(told));
 """
 
 FEATURES = [word.removeprefix("--features=") for word in sys.argv if word.startswith("--features=")]
-WORDS = ",".join(FEATURES).split(",")
+# the words that another word has in it
+INSIDE = {"bulk-memory": ["bulk-memory-opt"], "compilers": ["sign-ext", "call-indirect-overlong", "nontrapping-fptoint", "bulk-memory-opt", "bulk-memory"]}
+WORDS = {it for word in ",".join(FEATURES).split(",") for it in [word, *INSIDE.get(word, [])]}
 # the most bytes of a table index in a call_indirect
 LONGEST = 5 if "call-indirect-overlong" in WORDS else 1
 # the most bytes of a number behind FC
 WIDEST = 3
+# whether segments begin with a flag
+FLAGGED = "bulk-memory" in WORDS
 
 # Types are letters: i and j are i32 and i64, f and d are f32 and f64.
 TYPES = {"i": b"\x7f", "j": b"\x7e", "f": b"\x7d", "d": b"\x7c"}
@@ -54,6 +60,7 @@ TYPES = {"i": b"\x7f", "j": b"\x7e", "f": b"\x7d", "d": b"\x7c"}
 RUNS = "45 1 i i, 46 10 ii i, 50 1 j i, 51 10 jj i, 5b 6 ff i, 61 6 dd i, 67 3 i i, 6a 15 ii i, 79 3 j j, 7c 15 jj j, 8b 7 f f, "
 RUNS += "92 7 ff f, 99 7 d d, a0 7 dd d, a7 1 j i, a8 2 f i, aa 2 d i, ac 2 i j, ae 2 f j, b0 2 d j, b2 2 i f, b4 2 j f, b6 1 d f, "
 RUNS += "b7 2 i d, b9 2 j d, bb 1 f d, bc 1 f i, bd 1 d j, be 1 i f, bf 1 j d"
+RUNS += ", c0 2 i i, c2 3 j j" if "sign-ext" in WORDS else ""
 NUMERICS = [
     (bytes([int(first, 16) + i]), takes, gives)
     for first, count, takes, gives in map(str.split, RUNS.split(", "))
@@ -76,7 +83,8 @@ class Chooser(Numbers):
         return (b"\x43" if t == "f" else b"\x44") + bytes(self.below(256) for _ in range(4 if t == "f" else 8))
 
 
-Around = collections.namedtuple("Around", "types functions globals")  # pairs of letters; functions are indices of types
+# pairs of letters; functions are indices of types; the numbers of element segments and data segments
+Around = collections.namedtuple("Around", "types functions globals elements segments")
 
 
 class Frame:
@@ -164,6 +172,11 @@ class Body:
     def copy_or_fill(self):
         self.behind(*self.numbers.one_of([(10, bytes(2)), (11, bytes(1))]), "iii", "")
 
+    def segment(self):
+        x, y = (unsigned(self.numbers.below(count), self.numbers.below(WIDEST)) for count in (self.around.elements, self.around.segments))
+        to, by = (unsigned(0, self.numbers.below(6)) for _ in range(2))
+        self.behind(*self.numbers.one_of([(8, y + b"\x00", "iii"), (9, y, ""), (12, x + to, "iii"), (13, x, ""), (14, to + by, "iii")]), "")
+
     def memory_argument(self, most):
         return unsigned(self.numbers.below(most + 1)) + unsigned(self.numbers.below(1 << self.numbers.below(31)))
 
@@ -228,6 +241,17 @@ STEPS += [Body.open] * 3 + [Body.close_inner] * 2 + [Body.other_branch, Body.glo
 STEPS += [Body.call, Body.call_indirect, Body.stop]
 STEPS += [Body.saturation] * 4 if "nontrapping-fptoint" in WORDS else []
 STEPS += [Body.copy_or_fill] * 2 if "bulk-memory-opt" in WORDS else []
+STEPS += [Body.segment] * 4 if FLAGGED else []
+
+
+def segments(numbers, count, constant, contents, kind):
+    """Returns a list of segments of any of the three flags. `kind` is what comes before the contents behind 1 and 2."""
+    made = []
+    for _ in range(count):
+        flag = numbers.below(3) if FLAGGED else 0
+        front = unsigned(flag, numbers.below(3) if FLAGGED else 0) + (b"\x00" if flag == 2 else b"")
+        made.append(front + (b"" if flag == 1 else constant("i")) + (kind if flag else b"") + contents())
+    return vector(made)
 
 
 def valid(numbers):
@@ -254,14 +278,16 @@ def valid(numbers):
     before += section(4, b"\x01\x70" + numbers.one_of([b"\x00\x04", b"\x01\x00\x09"]))
     before += section(5, b"\x01" + numbers.one_of([b"\x00\x01", b"\x01\x01\x02"])) + section(6, vector(globals_))
     before += section(7, vector(exports)) + (section(8, starts[0]) if starts else b"")
-    before += section(9, b"\x01\x00" + constant("i") + vector(indices))
-    around = Around(types, [host, *functions], imported + own)
+    counts = [1 + numbers.below(3) if FLAGGED else 1 for _ in range(2)]
+    before += section(9, segments(numbers, counts[0], constant, lambda: vector(indices), b"\x00"))
+    before += section(12, unsigned(counts[1])) if FLAGGED else b""
+    around = Around(types, [host, *functions], imported + own, *counts)
     bodies = []
     for x in functions:
         runs = [(t, numbers.below(3)) for t in numbers.letters(4)]
         body = Body(numbers, around, types[x], "".join(t * count for t, count in runs))
         bodies.append(([unsigned(count) + TYPES[t] for t, count in runs], body.code))
-    return before, bodies, section(11, b"\x01\x00" + constant("i") + sized(b"abc"))
+    return before, bodies, section(11, segments(numbers, counts[1], constant, lambda: sized(b"abc"), b""))
 
 
 def encoded(before, bodies, after):
@@ -307,7 +333,7 @@ STRICTER = {
     "type of vectors": r"BadByte .*7b$",
     "several values": r"^1 Arity |^10 BadByte .*0[2-4] \w\w$",
     "shared memory": r"^[25] BadByte .*03$",
-    "later form of a segment": r"^(9|11) Index .*0[1-7]$|^12 SectionId ",
+    "later form of a segment": r"^(9|11) Index .*0[1-7]$|^9 BadNumber .*[08][3-7]$|^12 SectionId ",
     "index of a call_indirect's table": r"^10 Bad(Byte|Number) .*11 \w\w( 80)* \w\w$",
     "labels of a br_table in unreachable code": r"^10 Type .*br_table$",
 }

@@ -7,8 +7,8 @@
 The programs are those of bench/defaults/ and bench/floats/. Each clang compiles those in C and C++, and each rustc with
 a library for wasm32 those in Rust, in two ways:
 
-    by default     no option about features, with -O0 and -O2; wmod gets --profile 3 and --features with the four
-                   features that these compilers use, or the options of this script
+    by default     no option about features, with -O0 and -O2; wmod gets --features compilers, or the options of this
+                   script
     for 1.0        -mcpu=mvp, or -C target-cpu=mvp, with -O0, -O2 and -Os; wmod gets --profile 3
 
 WORDs choose the modules whose names contain one of them, such as `mvp` or `clang-22 -O2`.
@@ -45,7 +45,7 @@ import tempfile
 HERE = pathlib.Path(__file__).resolve().parent
 PROGRAM = HERE.parent / "crates/wm_cli/out/wm_cli"
 FOLDERS = ["defaults", "floats"]
-FEATURES = "sign-ext,call-indirect-overlong,nontrapping-fptoint,bulk-memory-opt"
+FEATURES = "compilers"
 OF_LIBRARY = {"hello.c", "sorted.c"}
 FREE = ["--target=wasm32", "-nostdlib", "-Wl,--no-entry", "-Wl,--export-all", "-Wl,--allow-undefined"]
 LIBRARY = ["--target=wasm32-wasi"]
@@ -177,7 +177,7 @@ def compare(program, profile, features, words):
 def main():
     parser = argparse.ArgumentParser(usage=__doc__.split("\n\n")[1].strip(), add_help=False)
     parser.add_argument("--features", default=FEATURES)
-    parser.add_argument("--profile", default="3")
+    parser.add_argument("--profile", default="1")
     parser.add_argument("--program", default=str(PROGRAM))
     parser.add_argument("--make", type=pathlib.Path)
     parser.add_argument("words", nargs="*")

@@ -13,8 +13,9 @@ writes another float than literals.py finds, a class must explain that.
 
 For each profile the script prints the number of texts of each class, with an example, and then each text that no class
 explains. Then it prints each module of stock.bin and of the tree with wasm2wat, and compares what `build` makes of that
-text with `canon`. It ends with status 1 if a text is unexplained or one of these modules differs. Without wat2wasm it
-compares nothing, says this and ends with status 2.
+text with `canon`. It does the same with modules of later features, under `--features compilers`. It ends with status 1
+if a text is unexplained or one of these modules differs. Without wat2wasm it compares nothing, says this and ends with
+status 2.
 """
 import collections
 import itertools
@@ -35,6 +36,11 @@ NAMES = HERE.parent / "crates/wm_syntax/src/instructions/table.rt"
 PROFILES = ["2", "3"]
 LATER = ["saturating-float-to-int", "simd", "multi-value", "bulk-memory", "reference-types"]
 FLAGS = [f"--disable-{feature}" for feature in LATER]
+# modules of later features: passive segments with the instructions that name them, and a bit of each other feature
+OF_LATER = [
+    "0061736d01000000010401600000030201000404017000010503010001090501010001000c01010a29012700410041004100fc080000fc0900410041004100fc0c008000fc0d00410041004100fc0e00000b0b0401010161",
+    "0061736d010000000104016000000302010004040170000105030100010904010100000c01010a260124004300000000fc00c01a410011008080808000410041004100fc0a0000fc0900fc0d000b0b03010100",
+]
 ATOM = r"[0-9A-Za-z!#$%&'*+\-./:<=>?@\\^_`|~]+"
 TOKEN = re.compile(r'"(?:[^"\\]|\\.)*"|[()]|' + ATOM)
 
@@ -541,15 +547,23 @@ def stocked(path):
         at += size
 
 
-def unlike_printed(program):
-    """Returns the number of modules that wasm2wat printed, and those of which `build` makes other bytes than `canon`."""
-    modules = [("1", path.read_bytes()) for path in ALONE] + [it for path in STOCKS for it in stocked(path)]
+def unlike_printed(program, modules, flags):
+    """Returns those modules of which `build` makes other bytes than `canon`, from the text that wasm2wat prints with these
+    flags. Each module comes with the options of wmod."""
     unlike = []
-    for number, (profile, module) in enumerate(modules):
-        _, text, complaint = run(["wasm2wat", *FLAGS, "-"], module)
-        if built(program, profile, text).binary != run([program, "canon", "--profile", profile, "-"], module)[1]:
+    for number, (options, module) in enumerate(modules):
+        _, text, complaint = run(["wasm2wat", *flags, "-"], module)
+        well, binary, _ = run([program, "build", "--quiet", *options, "-"], text)
+        if not well or binary != run([program, "canon", *options, "-"], module)[1]:
             unlike.append(f"module {number}, of {len(module)} bytes {complaint}")
-    return len(modules), unlike
+    return unlike
+
+
+def printed():
+    """Yields what the modules are that wasm2wat prints, the modules with the options of wmod, and the flags of wasm2wat."""
+    alone = [("1", path.read_bytes()) for path in ALONE]
+    yield "modules", [(["--profile", it], module) for it, module in [*alone, *(it for path in STOCKS for it in stocked(path))]], FLAGS
+    yield "modules of later features", [(["--features", "compilers"], bytes.fromhex(it)) for it in OF_LATER], []
 
 
 def main():
@@ -573,9 +587,11 @@ def main():
     for profile, name in wrong:
         for member in classes[profile][name]:
             print(f"{name} under profile {profile}: text, wmod, wat2wasm:", *map(repr, member), sep="\n  ")
-    count, unlike = unlike_printed(program)
-    print(f"{count} modules printed by wasm2wat, {len(unlike)} built otherwise", *unlike, sep="\n  ")
-    return 1 if wrong or unlike else 0
+    for what, modules, flags in printed():
+        unlike = unlike_printed(program, modules, flags)
+        print(f"{len(modules)} {what} printed by wasm2wat, {len(unlike)} built otherwise", *unlike, sep="\n  ")
+        wrong += unlike
+    return 1 if wrong else 0
 
 
 if __name__ == "__main__":

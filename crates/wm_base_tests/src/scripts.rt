@@ -100,12 +100,13 @@ pub(crate) fn number_of(rt: &impl Abort, word: &str) -> u32 {
     word.parse::<u32>().expect(rt, "a number")
 }
 
+/// Reads a type as the code or as the text format writes it.
 pub(crate) fn type_of(rt: &impl Abort, word: &str) -> ValType {
     match word {
-        "I32" => ValType::I32,
-        "I64" => ValType::I64,
-        "F32" => ValType::F32,
-        "F64" => ValType::F64,
+        "I32" | "i32" => ValType::I32,
+        "I64" | "i64" => ValType::I64,
+        "F32" | "f32" => ValType::F32,
+        "F64" | "f64" => ValType::F64,
         _ => unknown(rt, word),
     }
 }

@@ -2,8 +2,8 @@
 
 ghost use Rattle.std.specs.Prelude.{◌<◌, ◌^◌, length};
 
-use crate::scripts::{Scripted, number_of, parts_of, play, shown};
-use crate::typing::ops::{given_of, ops_of, type_of, types_of};
+use crate::scripts::{Scripted, number_of, parts_of, play, shown, type_of};
+use crate::typing::ops::{given_of, ops_of, types_of};
 use std::alloc::Global;
 use std::process::Abort;
 use wm_syntax::instructions::Op;
@@ -17,7 +17,8 @@ use wm_typing::stats::BodyStats;
 mod body_checker;
 mod ops;
 
-// Checks a body in a module with a memory and a constant global. Its function 0 has three i32 parameters and no result.
+// Checks a body in a module with a memory, an element segment, two data segments and a constant global. Its function 0
+// has three i32 parameters and no result.
 fn check(
     alloc: Global,
     params: &[ValType],
@@ -34,7 +35,7 @@ fn check(
         ty: ValType::I32,
         var: false,
     }];
-    let context = Context::new(&types, &[1], &globals, false, true);
+    let context = Context::new(&types, &[1], &globals, false, true, 1, 2);
     check_body(alloc, &context, 0, runs, ops)
 }
 
@@ -97,7 +98,10 @@ f32 f32 -> f32 |: local.get 0, local.get 1, i32.const 0, select, end = Ok(BodySt
 f64 -> i32 |: local.get 0, i64.trunc_f64_u, i32.wrap_i64, end = Ok(BodyStats { moves: 8, operands: 1, controls: 1, probes: 0 })
 f64 -> i64 |: local.get 0, i64.trunc_sat_f64_u, end = Ok(BodyStats { moves: 6, operands: 1, controls: 1, probes: 0 })
 -> |: i32.const 0, i32.const 1, i32.const 2, memory.copy, end = Ok(BodyStats { moves: 8, operands: 3, controls: 1, probes: 0 })
--> |: i32.const 0, i32.const 1, i32.const 2, memory.fill, end = Ok(BodyStats { moves: 8, operands: 3, controls: 1, probes: 0 })",
+-> |: i32.const 0, i32.const 1, i32.const 2, memory.fill, end = Ok(BodyStats { moves: 8, operands: 3, controls: 1, probes: 0 })
+-> |: i32.const 0, i32.const 1, i32.const 2, memory.init 1, end = Ok(BodyStats { moves: 8, operands: 3, controls: 1, probes: 0 })
+-> |: data.drop 1, end = Ok(BodyStats { moves: 2, operands: 0, controls: 1, probes: 0 })
+-> |: elem.drop 0, end = Ok(BodyStats { moves: 2, operands: 0, controls: 1, probes: 0 })",
     );
 }
 
@@ -151,6 +155,13 @@ i64.const 0, f64.neg = (Err(BodyEnd), Err(Mismatch))
 f64.const 0, f32.const 0, f64.add = (Err(BodyEnd), Err(Mismatch))
 i32.const 0, i32.const 0, i64.const 0, memory.copy = (Err(BodyEnd), Err(Mismatch))
 i32.const 0, i32.const 0, memory.fill = (Err(BodyEnd), Err(Arity))
+i32.const 0, i64.const 0, i32.const 0, memory.init 1 = (Err(BodyEnd), Err(Mismatch))
+memory.init 1 = (Err(BodyEnd), Err(Arity))
+memory.init 2 = (Err(BodyEnd), Err(Index))
+data.drop 2 = (Err(BodyEnd), Err(Index))
+elem.drop 1 = (Err(BodyEnd), Err(Index))
+table.init 0 = (Err(BodyEnd), Err(Index))
+table.copy = (Err(BodyEnd), Err(Index))
 f32.const 0, i32.trunc_sat_f64_s = (Err(BodyEnd), Err(Mismatch))
 f32.const 0, f64.const 0, i32.const 0, select = (Err(BodyEnd), Err(Mismatch))
 block f32, block f64, unreachable, br_table 1, label 0, label 1 = (Err(BodyEnd), Err(Mismatch))

@@ -155,7 +155,7 @@ out 3 wmod show < H = 3 "(mo""#;
 
 /// The number of runs of `INPUTS` in which an end fails: one for each call that an end gets in a run without a fault.
 /// CI prints it.
-const FAILED: &str = "39926 readers and 64257 writers that failed";
+const FAILED: &str = "40122 readers and 64593 writers that failed";
 
 #[test]
 fn readers_and_writers_that_fail(rt: HostRuntime) -> Result<(), Fail> {

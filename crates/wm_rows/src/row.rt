@@ -12,7 +12,8 @@
 //!
 //! ACTION is `check`, `stats`, `canon` or `show`. OPTIONS are those of `wmod` without their dashes, in
 //! this order: `profile 2` (or another one), `limit N`, `max-functions N`, `max-locals N`, `max-open N` and
-//! `old-words`. `profile 3+sign-ext` is `--profile 3 --features sign-ext`.
+//! `old-words`. `profile 3+sign-ext` is `--profile 3 --features sign-ext`. The word `BulkMemory` adds that
+//! feature of the library alone.
 //! BYTES are words: `H` is the header of a module, and any other is a byte in two hexadecimal digits.
 //! In a TEXT, `␊` means a line feed. PARTS are a text too, in which `3*a|b` means `aaab`.
 //! `read` instead of `build` allows a text with an invalid module.
@@ -115,13 +116,23 @@ fn profile_by(number: &str) -> Option<Profile> {
     }
 }
 
-/// Returns the feature with this word of `--features`, or `None` if there is none.
-fn feature_by(word: &str) -> Option<Feature> {
+/// Returns the features that a word adds, or `None` if it is no word. A word is one of `--features`, or `BulkMemory`.
+fn features_by(word: &str) -> Option<&'static [Feature]> {
     match word {
-        "sign-ext" => Some(Feature::SignExtension),
-        "call-indirect-overlong" => Some(Feature::LongIndex),
-        "nontrapping-fptoint" => Some(Feature::Saturation),
-        "bulk-memory-opt" => Some(Feature::Copies),
+        "sign-ext" => Some(&[Feature::SignExtension]),
+        "call-indirect-overlong" => Some(&[Feature::LongIndex]),
+        "nontrapping-fptoint" => Some(&[Feature::Saturation]),
+        "bulk-memory-opt" => Some(&[Feature::Copies]),
+        "bulk-memory" => Some(&[Feature::Copies, Feature::BulkMemory]),
+        "compilers" => Some(&[
+            Feature::Floats,
+            Feature::SignExtension,
+            Feature::LongIndex,
+            Feature::Saturation,
+            Feature::Copies,
+            Feature::BulkMemory,
+        ]),
+        "BulkMemory" => Some(&[Feature::BulkMemory]),
         _ => None,
     }
 }
@@ -131,7 +142,9 @@ fn profile_of(word: &str) -> Option<Profile> {
     let mut parts = word.split('+');
     let mut profile = profile_by(parts.next()?)?;
     for part in parts {
-        profile = profile.with(feature_by(part)?);
+        for feature in features_by(part)? {
+            profile = profile.with(*feature);
+        }
     }
     Some(profile)
 }

@@ -332,7 +332,7 @@ fn a_sink_that_refuses(rt: HostRuntime) -> Result<(), Fail> {
 // From the bytes so far, a decoder keeps a few words and an unfinished name.
 #[test]
 fn a_decoder_is_small(rt: HostRuntime) {
-    assert!(rt; std::mem::size_of::<Decoder<Full>>() <= 128);
+    assert!(rt; std::mem::size_of::<Decoder<Full>>() <= 136);
 }
 
 #[test]

@@ -6,58 +6,16 @@ use std::alloc::Global;
 use std::process::Abort;
 use wm_syntax::numbers::{Int32, Int64, Leb128, Num32, Num64, Step, short_front};
 
-fn read_u32(bytes: &[u8]) -> Step<u32> {
-    let mut reader = Num32::new();
-    let mut answer = Step::More;
-    for byte in bytes {
-        answer = reader.push(*byte);
-    }
-    answer
-}
-
-fn read_u64(bytes: &[u8]) -> Step<u64> {
-    let mut reader = Num64::new();
-    let mut answer = Step::More;
-    for byte in bytes {
-        answer = reader.push(*byte);
-    }
-    answer
-}
-
-fn read_s32(bytes: &[u8]) -> Step<i32> {
-    let mut reader = Int32::new();
-    let mut answer = Step::More;
-    for byte in bytes {
-        answer = reader.push(*byte);
-    }
-    answer
-}
-
-fn read_s64(bytes: &[u8]) -> Step<i64> {
-    let mut reader = Int64::new();
-    let mut answer = Step::More;
-    for byte in bytes {
-        answer = reader.push(*byte);
-    }
-    answer
-}
-
-fn read_unsigned7(bytes: &[u8]) -> Step<u64> {
-    let mut reader = Leb128::new();
-    let mut answer = Step::More;
-    for byte in bytes {
-        answer = reader.push_unsigned(7, *byte);
-    }
-    answer
-}
-
-fn read_signed33(bytes: &[u8]) -> Step<i64> {
-    let mut reader = Leb128::new();
-    let mut answer = Step::More;
-    for byte in bytes {
-        answer = reader.push_signed(33, *byte);
-    }
-    answer
+// The answer of a new reader to the last of these bytes.
+macro_rules! last_answer {
+    ($reader:ident, $push:ident, $bytes:ident $(, $width:literal)?) => {{
+        let mut reader = $reader::new();
+        let mut answer = Step::More;
+        for byte in $bytes {
+            answer = reader.$push($($width,)? *byte);
+        }
+        answer
+    }};
 }
 
 /// Reads bytes by a reader of the named kind, and returns its answer to the last byte.
@@ -73,12 +31,12 @@ impl Scripted for Numbers {
 
 fn read(rt: &impl Abort, alloc: Global, word: &str, bytes: &[u8]) -> String {
     match word {
-        "u32" => shown(rt, alloc, read_u32(bytes)),
-        "u64" => shown(rt, alloc, read_u64(bytes)),
-        "s32" => shown(rt, alloc, read_s32(bytes)),
-        "s64" => shown(rt, alloc, read_s64(bytes)),
-        "unsigned7" => shown(rt, alloc, read_unsigned7(bytes)),
-        "signed33" => shown(rt, alloc, read_signed33(bytes)),
+        "u32" => shown(rt, alloc, last_answer!(Num32, push, bytes)),
+        "u64" => shown(rt, alloc, last_answer!(Num64, push, bytes)),
+        "s32" => shown(rt, alloc, last_answer!(Int32, push, bytes)),
+        "s64" => shown(rt, alloc, last_answer!(Int64, push, bytes)),
+        "unsigned7" => shown(rt, alloc, last_answer!(Leb128, push_unsigned, bytes, 7)),
+        "signed33" => shown(rt, alloc, last_answer!(Leb128, push_signed, bytes, 33)),
         "short_front" => shown(rt, alloc, short_front(bytes)),
         _ => unknown(rt, word),
     }

@@ -55,10 +55,15 @@ name_of BF = "f64.reinterpret_i64"
 name_of FF = ""
 name_of 100 = "i32.trunc_sat_f32_s"
 name_of 10B = "memory.fill"
-name_of FC, name_of 108, name_of 10C, name_of FFFF = ""
-ONE block = With(Block)
+name_of 108 = "memory.init"
+name_of 109 = "data.drop"
+name_of 10C = "table.init"
+name_of 10D = "elem.drop"
+name_of 10E = "table.copy"
+name_of FC, name_of 10F, name_of FFFF = ""
+ONE block = With(Block(Block))
 ONE unreachable = Plain(Simple(Unreachable))
-ONE i64.load32_u = With(Load(I64Load32U))
+ONE i64.load32_u = With(Access(Load(I64Load32U)))
 ONE end = Plain(End)
 ONE = None
 ONE i32.ad = None
@@ -66,10 +71,10 @@ ONE f32.add, TWO f32.add, ONE i32.trunc_f64_s, TWO f64.load = Float
 ONE f32.ad, THREE f32.ad, FOUR f64 = None
 ONE i64.extend32_s, THREE i64.extend32_s = None
 TWO i64.extend32_s, FOUR i64.extend32_s = Plain(Simple(Numeric(SignExtend(I64From32))))
-THREE f32.load = With(Load(F32Load))
-THREE f64.load = With(Load(F64Load))
-THREE f32.store = With(Store(F32Store))
-THREE f64.store = With(Store(F64Store))
+THREE f32.load = With(Access(Load(F32Load)))
+THREE f64.load = With(Access(Load(F64Load)))
+THREE f32.store = With(Access(Store(F32Store)))
+THREE f64.store = With(Access(Store(F64Store)))
 THREE f32.const = With(F32Const)
 THREE f64.const = With(F64Const)
 THREE f32.eq = Plain(Simple(Numeric(FloatCompare(F32, Eq))))
@@ -142,7 +147,8 @@ THREE f64.reinterpret_i64 = Plain(Simple(Numeric(Convert(F64ReinterpretI64))))"#
 fn names_lead_back(rt: HostRuntime) {
     let profile = Profile::FOUR
         .with(Feature::Saturation)
-        .with(Feature::Copies);
+        .with(Feature::Copies)
+        .with(Feature::BulkMemory);
     for code in 0..0x200_u16 {
         let name = name_of(code);
         if !name.is_empty() {

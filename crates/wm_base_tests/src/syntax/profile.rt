@@ -19,4 +19,6 @@ fn features_are_added(rt: HostRuntime) {
         one.with(Feature::Saturation).has_prefix() && one.with(Feature::Copies).has_prefix()
     );
     assert!(rt; !one.with(Feature::Saturation).has(Feature::Copies));
+    assert!(rt; !Profile::FOUR.has(Feature::BulkMemory));
+    assert!(rt; one.with(Feature::BulkMemory).has_prefix());
 }

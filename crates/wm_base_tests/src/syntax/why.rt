@@ -5,7 +5,7 @@ use std::alloc::Global;
 use std::process::Abort;
 use wm_syntax::why::Why;
 
-const ALL: [Why; 30] = [
+const ALL: [Why; 31] = [
     Why::Magic,
     Why::Version,
     Why::SectionId,
@@ -36,6 +36,7 @@ const ALL: [Why; 30] = [
     Why::ManyFunctions,
     Why::ManyLocals,
     Why::Deep,
+    Why::DataCount,
 ];
 
 /// Returns the printed name or sentence of a refusal.
@@ -111,6 +112,7 @@ name Memory = "Memory"
 name ManyFunctions = "ManyFunctions"
 name ManyLocals = "ManyLocals"
 name Deep = "Deep"
+name DataCount = "DataCount"
 sentence Magic = a module begins with the bytes 00 61 73 6D
 sentence Memory = memory ran out
 full_stop SectionOrder, full_stop Mismatch, full_stop ElsePlace, full_stop Deep = false"#,

@@ -1,7 +1,7 @@
 //! Tests of `BodyChecker`, call by call.
 
-use crate::scripts::{Scripted, number_of, play, shown, unknown, word_of};
-use crate::typing::ops::{op_of, type_of};
+use crate::scripts::{Scripted, number_of, play, shown, type_of, unknown, word_of};
+use crate::typing::ops::op_of;
 use std::alloc::Global;
 use std::process::Abort;
 use wm_syntax::instructions::Op;
@@ -27,7 +27,7 @@ impl Scripted for BodyChecker {
 fn begun(rt: &impl Abort, alloc: Global, checker: &mut BodyChecker) -> String {
     let mut types = FuncTypes::new(alloc);
     types.push(&[], None).expect(rt, "memory");
-    let context = Context::new(&types, &[], &[], false, false);
+    let context = Context::new(&types, &[], &[], false, false, 0, 0);
     checker.begin(&context, 0);
     shown(rt, alloc, ())
 }
@@ -42,7 +42,7 @@ fn declared(rt: &impl Abort, alloc: Global, checker: &mut BodyChecker, with: &st
 fn stepped(rt: &impl Abort, alloc: Global, checker: &mut BodyChecker, op: Op) -> String {
     let mut types = FuncTypes::new(alloc);
     types.push(&[], None).expect(rt, "memory");
-    let context = Context::new(&types, &[], &[], false, false);
+    let context = Context::new(&types, &[], &[], false, false, 0, 0);
     assert!(rt; !checker.may_be_closed());
     shown(rt, alloc, checker.step(&context, op))
 }

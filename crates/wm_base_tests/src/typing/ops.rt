@@ -1,24 +1,14 @@
 //! Types and ops in scripts. Ops are written as in the text format, with commas between them. A float constant is its
 //! bits.
 
-use crate::scripts::{number_of, unknown, word_of};
+use crate::scripts::{number_of, type_of, unknown, word_of};
 use std::alloc::Global;
 use std::process::Abort;
 use wm_syntax::instructions::op_class::{Immediates, OpClass};
 use wm_syntax::instructions::op_names::op_named;
-use wm_syntax::instructions::{LoadOp, MemArg, Op, Simple};
+use wm_syntax::instructions::{MemArg, Op, Simple};
 use wm_syntax::profile::{Feature, Profile};
 use wm_syntax::types::ValType;
-
-pub(crate) fn type_of(rt: &impl Abort, word: &str) -> ValType {
-    match word {
-        "i32" => ValType::I32,
-        "i64" => ValType::I64,
-        "f32" => ValType::F32,
-        "f64" => ValType::F64,
-        _ => unknown(rt, word),
-    }
-}
 
 /// Reads an optional type. An empty word is none.
 pub(crate) fn given_of(rt: &impl Abort, word: &str) -> Option<ValType> {
@@ -51,7 +41,8 @@ pub(crate) fn op_of(rt: &impl Abort, text: &str) -> Op {
     let (name, with) = word_of(text);
     let profile = Profile::THREE
         .with(Feature::Saturation)
-        .with(Feature::Copies);
+        .with(Feature::Copies)
+        .with(Feature::BulkMemory);
     match op_named(profile, name.as_bytes()) {
         OpClass::Plain(op) => op,
         OpClass::With(immediates) => op_with(rt, immediates, with),
@@ -68,29 +59,18 @@ fn label_of(rt: &impl Abort, name: &str, with: &str) -> Op {
 
 fn op_with(rt: &impl Abort, immediates: Immediates, with: &str) -> Op {
     match immediates {
-        Immediates::Block => Op::Block(given_of(rt, with)),
-        Immediates::If => Op::If(given_of(rt, with)),
+        Immediates::Block(op) => op.op(given_of(rt, with)),
+        Immediates::Index(op) => op.op(number_of(rt, with)),
+        Immediates::CallIndirect => Op::Simple(Simple::CallIndirect(number_of(rt, with))),
+        Immediates::Memory(op) => op.op(),
+        Immediates::MemoryInit => Op::Simple(Simple::MemoryInit(number_of(rt, with))),
+        Immediates::TableInit => Op::Simple(Simple::TableInit(number_of(rt, with))),
+        Immediates::TableCopy => Op::Simple(Simple::TableCopy),
         Immediates::I32Const => int_of(rt, with),
         Immediates::I64Const => Op::Simple(Simple::I64Const(i64::from(number_of(rt, with)))),
         Immediates::F32Const => Op::Simple(Simple::F32Const(number_of(rt, with))),
         Immediates::F64Const => Op::Simple(Simple::F64Const(u64::from(number_of(rt, with)))),
-        Immediates::Load(load) => load_of(rt, load, with),
-        Immediates::MemoryCopy => Op::Simple(Simple::MemoryCopy),
-        Immediates::MemoryFill => Op::Simple(Simple::MemoryFill),
-        _ => op_with_index(rt, immediates, number_of(rt, with)),
-    }
-}
-
-fn op_with_index(rt: &impl Abort, immediates: Immediates, index: u32) -> Op {
-    match immediates {
-        Immediates::Br => Op::Simple(Simple::Br(index)),
-        Immediates::BrIf => Op::Simple(Simple::BrIf(index)),
-        Immediates::BrTable => Op::BrTable(index),
-        Immediates::Call => Op::Simple(Simple::Call(index)),
-        Immediates::CallIndirect => Op::Simple(Simple::CallIndirect(index)),
-        Immediates::LocalGet => Op::Simple(Simple::LocalGet(index)),
-        Immediates::GlobalSet => Op::Simple(Simple::GlobalSet(index)),
-        _ => unknown(rt, "an op"),
+        Immediates::Access(op) => op.op(access_of(rt, with)),
     }
 }
 
@@ -99,9 +79,9 @@ fn int_of(rt: &impl Abort, with: &str) -> Op {
 }
 
 // Reads the exponent of the alignment, and the offset.
-fn load_of(rt: &impl Abort, load: LoadOp, with: &str) -> Op {
+fn access_of(rt: &impl Abort, with: &str) -> MemArg {
     let (align, offset) = word_of(with);
     let align = number_of(rt, align);
     let offset = number_of(rt, offset);
-    Op::Simple(Simple::Load(load, MemArg { align, offset }))
+    MemArg { align, offset }
 }

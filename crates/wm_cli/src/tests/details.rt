@@ -3,16 +3,18 @@
 pub const DETAILS: &str =
     r#"detail wmod check < H 01 04 01 60 00 00 03 02 01 00 0A 07 01 05 00 41 00 C4 0B = byte 0xc4 at 0x19, function 0 (code section): a sign-extension instruction (sign-ext); use --features sign-ext, or compile with -mno-sign-ext
 detail wmod check < H 06 02 01 7D = byte 0x7d at 0xb, global 0 (global section): a floating-point type or instruction (floats); use --profile 3, or 4 with sign extension
-detail wmod check < H 01 04 01 60 00 00 03 02 01 00 0A 06 01 04 00 FC 00 0B = byte 0xfc at 0x17, function 0 (code section): a saturating conversion, or an instruction on a whole memory or table (nontrapping-fptoint, bulk-memory); use --features nontrapping-fptoint,bulk-memory-opt, or compile with -mcpu=mvp
+detail wmod check < H 01 04 01 60 00 00 03 02 01 00 0A 06 01 04 00 FC 00 0B = byte 0xfc at 0x17, function 0 (code section): a saturating conversion, or an instruction on a whole memory or table (nontrapping-fptoint, bulk-memory); use --features nontrapping-fptoint,bulk-memory, or compile with -mcpu=mvp
 detail wmod check --features bulk-memory-opt < H 01 04 01 60 00 00 03 02 01 00 0A 06 01 04 00 FC 00 0B = byte 0x00 at 0x18, function 0 (code section): a saturating conversion (nontrapping-fptoint); use --features nontrapping-fptoint, or compile with -mno-nontrapping-fptoint
-detail wmod check --features bulk-memory-opt < H 01 04 01 60 00 00 03 02 01 00 0A 08 01 06 00 FC 08 00 00 0B = byte 0x08 at 0x18, function 0 (code section): memory.init or data.drop (bulk-memory); compile with -mno-bulk-memory
+detail wmod check --features bulk-memory-opt < H 01 04 01 60 00 00 03 02 01 00 0A 08 01 06 00 FC 08 00 00 0B = byte 0x08 at 0x18, function 0 (code section): memory.init or data.drop (bulk-memory); use --features bulk-memory, or compile with -mno-bulk-memory
 detail wmod check --features nontrapping-fptoint < H 01 04 01 60 00 00 03 02 01 00 0A 08 01 06 00 FC 0A 00 00 0B = byte 0x0a at 0x18, function 0 (code section): memory.copy or memory.fill (bulk-memory-opt); use --features bulk-memory-opt, or compile with -mcpu=mvp
-detail wmod check --features bulk-memory-opt < H 01 04 01 60 00 00 03 02 01 00 0A 08 01 06 00 FC 0C 00 00 0B = byte 0x0c at 0x18, function 0 (code section): table.init, elem.drop or table.copy (bulk-memory); compile with -mcpu=mvp
+detail wmod check --features bulk-memory-opt < H 01 04 01 60 00 00 03 02 01 00 0A 08 01 06 00 FC 0C 00 00 0B = byte 0x0c at 0x18, function 0 (code section): table.init, elem.drop or table.copy (bulk-memory); use --features bulk-memory, or compile with -mcpu=mvp
 detail wmod check --features bulk-memory-opt < H 01 04 01 60 00 00 03 02 01 00 0A 07 01 05 00 FC 10 00 0B = byte 0x10 at 0x18, function 0 (code section): table.grow, table.size or table.fill (reference-types); compile with -mno-reference-types
 detail wmod check --features nontrapping-fptoint < H 01 04 01 60 00 00 03 02 01 00 0A 07 01 05 00 FC 80 01 0B = byte 0x01 at 0x19, function 0 (code section): no instruction of the profile begins with this byte
-detail wmod check < H 0C = byte 0x0c at 0x8, a section id: a data count section (bulk-memory); compile with -mno-bulk-memory
-detail wmod check < H 05 03 01 00 01 0B 04 01 01 01 61 = byte 0x01 at 0x10, data segment 0 (data section): no such index; if it is the first number of a segment, a later form (bulk-memory); compile with -mno-bulk-memory
-detail wmod check < H 04 04 01 70 00 01 09 04 01 01 00 00 = byte 0x01 at 0x11, element segment 0 (element section): no such index; if it is the first number of a segment, a later form (bulk-memory, reference-types); compile with -mcpu=mvp
+detail wmod check < H 0C = byte 0x0c at 0x8, a section id: a data count section (bulk-memory); use --features bulk-memory, or compile with -mno-bulk-memory
+detail wmod check < H 05 03 01 00 01 0B 04 01 01 01 61 = byte 0x01 at 0x10, data segment 0 (data section): no such index; if it is the first number of a segment, a later form (bulk-memory); use --features bulk-memory, or compile with -mno-bulk-memory
+detail wmod check < H 04 04 01 70 00 01 09 04 01 01 00 00 = byte 0x01 at 0x11, element segment 0 (element section): no such index; if it is the first number of a segment, a later form (bulk-memory); use --features bulk-memory, or compile with -mcpu=mvp
+detail wmod check < H 04 04 01 70 00 01 09 04 01 03 00 00 = byte 0x03 at 0x11, element segment 0 (element section): no such index; if it is the first number of a segment, a later form (reference-types); compile with -mcpu=mvp
+detail wmod check --features bulk-memory < H 04 04 01 70 00 01 09 04 01 03 00 00 = byte 0x03 at 0x11, element segment 0 (element section): if it is the first number of a segment, a declarative one or one of expressions (reference-types); compile with -mno-reference-types
 detail wmod check < H 01 04 01 60 00 00 03 02 01 00 04 04 01 70 00 01 0A 0D 01 0B 00 41 00 11 00 80 80 80 80 00 0B = byte 0x80 at 0x21, function 0 (code section): a table index of more than one byte (call-indirect-overlong); use --features call-indirect-overlong, or compile with -mcpu=mvp
 detail wmod check < H 01 04 01 60 00 00 03 02 01 00 04 04 01 70 00 01 0A 09 01 07 00 41 00 11 00 01 0B = byte 0x01 at 0x21, function 0 (code section): a table other than the first (reference-types); compile with -mno-reference-types
 detail wmod check < H 01 04 01 60 00 00 03 02 01 00 04 04 01 70 00 01 0A 09 01 07 00 41 00 11 00 81 0B = byte 0x81 at 0x21, function 0 (code section): a table other than the first (reference-types); compile with -mno-reference-types
@@ -39,6 +41,8 @@ detail wmod check < H 01 04 01 60 00 00 03 02 01 00 0A 05 01 03 00 19 0B = byte 
 detail wmod check < H 01 04 01 60 00 00 03 02 01 00 0A 08 01 06 00 1F 40 00 0B 0B = byte 0x1f at 0x17, function 0 (code section): an instruction on exceptions (exception-handling); compile without -fwasm-exceptions
 detail wmod check < H 01 05 01 60 01 69 00 = byte 0x69 at 0xd, type 0 (type section): the type exnref (exception-handling); compile without -fwasm-exceptions
 detail wmod check < H 02 05 01 00 00 04 00 = byte 0x04 at 0xd, import 0 (import section): a tag (exception-handling); compile without -fwasm-exceptions
+detail wmod check < H 07 05 01 01 61 04 00 = byte 0x04 at 0xd, export 0 (export section): a tag (exception-handling); compile without -fwasm-exceptions
+detail wmod check --features bulk-memory < H 09 04 01 01 04 00 = byte 0x04 at 0xc, element segment 0 (element section): this byte is not allowed here
 detail wmod check < H 0D = byte 0x0d at 0x8, a section id: a tag section (exception-handling); compile without -fwasm-exceptions
 detail wmod check < H 06 09 01 7F 00 41 01 41 02 6A 0B = byte 0x02 at 0x10, global 0 (global section): a second instruction in a constant expression (extended-const); compile with -mno-extended-const
 detail wmod check < H 05 03 01 00 01 0B 08 01 00 41 01 41 02 6A 0B 00 = byte 0x02 at 0x14, data segment 0 (data section): a second instruction in a constant expression (extended-const); compile with -mno-extended-const
@@ -68,13 +72,13 @@ detail wmod check < H 00 01 80 = byte 0x80 at 0xa, a custom section: a section's
 detail wmod check < H 01 04 01 60 00 00 01 04 01 60 00 00 = byte 0x01 at 0xe, a section id: a section appears twice, or after a section that must follow it
 detail wmod check < H 01 04 01 60 00 00 02 07 01 01 61 01 62 00 00 03 02 01 00 0A 05 01 03 00 05 0B = byte 0x05 at 0x20, function 1 (code section): an `else` is not in the first branch of an `if`
 detail wmod check < H 02 06 01 00 00 03 7F 00 06 06 01 7F 00 42 00 0B = byte 0x00 at 0x16, global 1 (global section): an operand, a label or a constant has the wrong type, or an `if` with a result has no `else`
-detail wmod check < H 01 04 01 60 00 00 08 01 00 = byte 0x00 at 0x10, the start section: an index is out of range: there is no such type, function, table, memory, global, local or label
+detail wmod check < H 01 04 01 60 00 00 08 01 00 = byte 0x00 at 0x10, the start section: an index is out of range: there is no such type, function, table, memory, global, local, label or segment
 detail wmod check < H 05 03 01 00 01 07 09 02 01 61 02 00 01 61 02 00 = byte 0x61 at 0x15, export 1 (export section): two exports have the same name
 detail wmod check < H = none
 detail wmod check --limit 7 < H = longer than the limit of 7 bytes
 detail wmod build --limit 7 < (module) = longer than the limit of 7 bytes
 detail wmod build < (module) = none
-detail wmod build < (module (start 0)) = in the canonical binary: byte 0x00 at 0xa, the start section: an index is out of range: there is no such type, function, table, memory, global, local or label
+detail wmod build < (module (start 0)) = in the canonical binary: byte 0x00 at 0xa, the start section: an index is out of range: there is no such type, function, table, memory, global, local, label or segment
 detail wmod build < = 1:1: found the end of the text, expected `(module`
 detail wmod build < (func) = 1:2: found `func`, expected `module`
 detail wmod build < (module (export "a" 1)) = 1:21: found `1`, expected `(`
@@ -82,5 +86,8 @@ detail wmod build < (module (export 1)) = 1:17: found `1`, expected a string
 detail wmod build < (module (memory $m)) = 1:19: found `)`, expected an integer
 detail wmod build < (module (memory 1 2 3)) = 1:21: found `3`, expected `)`
 detail wmod build < (module) ) = 1:10: found `)`, expected the end of the text
+detail wmod build --features bulk-memory < (module (data "a") (memory 1 2 3)) = 1:32: found `3`, expected `)`
+detail wmod build --features bulk-memory < (module (type (func)) (func (type 0) data.drop $d)) = 1:48: found `$d`, expected an integer
+detail wmod build --features bulk-memory < (module (memory $m 1) (data $m "a")) = 1:32: found `"a"`, expected `(`
 detail wmod build < (module (memory)) = 1:16: found `)`: another token must come here, such as an instruction and not a number, string or identifier
 detail wmod build < (module (memory 1) (memory 1)) = in the canonical binary: byte 0x01 at 0xe, memory 1 (memory section): the module has a second table or a second memory"#;

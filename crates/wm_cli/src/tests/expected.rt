@@ -7,7 +7,7 @@ use std::test::Fail;
 use wm_command::expected::{Expected, Keyword, expected_at};
 use wm_read::spellings::Spellings;
 use wm_read::text::read_text;
-use wm_syntax::profile::Profile;
+use wm_syntax::profile::{Feature, Profile};
 use wm_tokens::lexeme::{next_token, skip_space};
 
 // The texts have each form. In each, `$x` names an item of every index space that an index there may be of, and `$y` none.
@@ -39,6 +39,11 @@ const SEGMENTS: &str =
     (global $x i32 i32.const 0) (elem $x (offset i32.const 0) func 0 $x) \
     (elem 0 (offset (global.get $x)) 0) (elem (i32.const 0) $x) (data $x (offset i64.const 0) \"a\" \"b\") \
     (data 0 (f32.const 1.5) \"a\") (data (i32.const 0)))";
+
+const PASSIVE: &str =
+    "(module (type $x (func)) (func $x (type 0) memory.init 0 data.drop 1 table.init 0 elem.drop 1 \
+    table.copy memory.fill) (table $x 1 funcref) (memory $x 1) (elem func 0 $x) (elem func) (elem $x (i32.const 0) func) \
+    (data \"a\" \"b\") (data) (data $x (i32.const 0) \"a\") (data \"a\"))";
 
 /// Tokens of each kind. Those of one kind are neighbours.
 const TOKENS: [&str; 45] = [
@@ -131,7 +136,10 @@ fn close(text: &mut String) -> Result<(), Fail> {
 
 /// Returns the offset at which a text is refused.
 fn refused_at(alloc: Global, text: &str) -> Option<usize> {
-    match read_text(alloc, Profile::FOUR, Spellings::Standard, text.as_bytes()) {
+    let profile = Profile::FOUR
+        .with(Feature::Copies)
+        .with(Feature::BulkMemory);
+    match read_text(alloc, profile, Spellings::Standard, text.as_bytes()) {
         Ok(_) => None,
         Err(refusal) => Some(refusal.at),
     }
@@ -249,4 +257,9 @@ fn in_items(rt: HostRuntime) -> Result<(), Fail> {
 #[test]
 fn in_segments(rt: HostRuntime) -> Result<(), Fail> {
     judge_each(&rt, rt.alloc(), SEGMENTS)
+}
+
+#[test]
+fn in_passive_segments(rt: HostRuntime) -> Result<(), Fail> {
+    judge_each(&rt, rt.alloc(), PASSIVE)
 }

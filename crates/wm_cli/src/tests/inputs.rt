@@ -10,6 +10,7 @@ wmod check < H 0C
 wmod check < H 01 01 00 01
 wmod check < H 00 00
 wmod check < H 0A 01 01
+wmod check --features bulk-memory < H 0C 01 01
 wmod check < H 00 80 80 80 80 10
 wmod check < H 00 02 01 80
 wmod check < H 01 02 01 00

@@ -32,6 +32,10 @@ read wmod check --features call-indirect-overlong = Check ONE+long 4294967295 No
 read wmod show --profile 3 --features sign-ext,call-indirect-overlong = Show FOUR+long 4294967295 None None None Standard None None
 read wmod check --profile 4 --features nontrapping-fptoint = Check FOUR+saturation 4294967295 None None None Standard None None
 read wmod canon --features bulk-memory-opt,nontrapping-fptoint = Canon ONE+saturation+copies 4294967295 None None None Standard None None
+read wmod check --features bulk-memory = Check ONE+copies+bulk 4294967295 None None None Standard None None
+read wmod build --profile 3 --features bulk-memory-opt,bulk-memory = Build THREE+copies+bulk 4294967295 None None None Standard None None
+read wmod check --features compilers = Check FOUR+long+saturation+copies+bulk 4294967295 None None None Standard None None
+read wmod canon --profile 2 --features sign-ext,compilers a = Canon FOUR+long+saturation+copies+bulk 4294967295 None None None Standard Some("a") Some("a")
 read wmod check --features call-indirect-overlong,sign-ext,call-indirect-overlong a = Check TWO+long 4294967295 None None None Standard Some("a") Some("a")
 read wmod check --features help = features
 read wmod --features=help build a b --profile 9 --from c -o d = features
@@ -48,6 +52,8 @@ read wmod check --features sign-ext, = words 2
 read wmod check --features ,sign-ext = words 2
 read wmod check --features sign-ext,,sign-ext = words 2
 read wmod check --features signext = words 2
+read wmod check --features BulkMemory = words 2
+read wmod check --features compilers, = words 2
 read wmod check --features Sign-ext = words 2
 read wmod check --features sign-ext,quux = words 2
 read wmod check --features sign-ext;sign-ext = words 2
@@ -211,7 +217,7 @@ const HELP: &str = "Checks and converts WebAssembly 1.0 modules, reading them on
     Examples:\n  \
     wmod check module.wasm\n  \
     wmod check --profile 3 with_floats.wasm\n  \
-    wmod check --profile 3 --features sign-ext later.wasm\n  \
+    wmod check --features compilers compiled.wasm\n  \
     wmod stats --limit 1000000 < module.wasm\n  \
     wmod check first.wasm second.wasm\n  \
     find modules -name '*.wasm' -print0 | wmod check --from - --null\n  \

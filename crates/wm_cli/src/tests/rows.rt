@@ -82,11 +82,12 @@ fn word_of(profile: Profile, feature: Feature, word: &'static str) -> &'static s
 /// Tells a profile: a constant, and the features that are added to it.
 fn tell_profile(alloc: Global, profile: Profile) -> Result<String, Fail> {
     Ok(format!(in alloc;
-        "{}{}{}{}",
+        "{}{}{}{}{}",
         constant_of(profile),
         word_of(profile, Feature::LongIndex, "+long"),
         word_of(profile, Feature::Saturation, "+saturation"),
-        word_of(profile, Feature::Copies, "+copies")
+        word_of(profile, Feature::Copies, "+copies"),
+        word_of(profile, Feature::BulkMemory, "+bulk")
     )?)
 }
 

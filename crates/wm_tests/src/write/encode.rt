@@ -86,8 +86,8 @@ functions: [Function { type_index: 0, locals: Locals { runs: [] }, body: Body { 
 tables: [Limits { min: 1, max: None }], memories: [Limits { min: 1, max: Some(2) }], \
 globals: [GlobalDef { ty: GlobalType { ty: I32, var: false }, init: I32(-1) }], \
 exports: [Export { name: \"e\", kind: Memory, index: 0 }], start: Some(1), \
-elements: [Element { table: 0, offset: I32(0), functions: [0, 200] }], \
-segments: [Segment { memory: 0, offset: Global(0), bytes: [0, 255] }] }",
+elements: [Element { mode: Active { index: 0, offset: I32(0) }, functions: [0, 200] }], \
+segments: [Segment { mode: Active { index: 0, offset: Global(0) }, bytes: [0, 255] }] }",
     SECTIONS_BYTES,
 );
 

@@ -40,6 +40,8 @@ pub(crate) fn item_of(rt: &impl Abort, words: &'static str) -> Item<'static> {
     match word {
         "type" => Item::NewType,
         "body" => Item::Body,
+        "passive_elem" => Item::PassiveElem,
+        "passive_segment" => Item::PassiveSegment,
         "import_module" => Item::ImportModule(rest.as_bytes()),
         "import_name" => Item::ImportName(rest.as_bytes()),
         "export_name" => Item::ExportName(rest.as_bytes()),
