@@ -25,6 +25,7 @@ use Rattle.wm_syntax.specs.declared.instructions.Simple.TheVariants as simple
 use Rattle.wm_machine.specs.declared.step.reading.Reading.{Reading}
 use Rattle.wm_machine.specs.declared.step.reading.Reading.TheVariants.{More, Done, Bad}
 use Rattle.wm_syntax.specs.declared.instructions.op_class.Indexed.{Indexed}
+use Rattle.wm_syntax.specs.declared.instructions.op_class.Indexed.TheVariants as indexed
 use Rattle.wm_syntax.specs.declared.instructions.op_class.LoadOrStore.{LoadOrStore}
 use Rattle.wm_syntax.specs.declared.instructions.op_class.LoadOrStore.TheVariants as accesses
 use Rattle.wm_syntax.specs.declared.instructions.op_class.BlockOp.{BlockOp}
@@ -33,10 +34,10 @@ use Rattle.wm_syntax.specs.declared.instructions.op_class.MemoryOp.{MemoryOp}
 use Rattle.wm_syntax.specs.declared.instructions.op_class.MemoryOp.TheVariants as memories
 use Rattle.wm_machine.specs.declared.step.ops.InOp.{InOp}
 use Rattle.wm_machine.specs.declared.step.ops.InOp.TheVariants as at
-use Rattle.wm_machine.specs.exact.OpSteps.{op_push, class_step, on_answer, call_op, block_step, const_32_op, const_64_op, float_32_op, float_64_op, fresh_index, fresh_access, pushed_32, pushed_64}
+use Rattle.wm_machine.specs.exact.OpSteps.{op_push, after_table, class_step, copy_table_op, init_op, init_table_op, on_answer, call_op, block_step, const_32_op, const_64_op, float_32_op, float_64_op, fresh_index, fresh_access, pushed_32, pushed_64}
 use Rattle.wm_syntax.specs.exact.OpShapes.{index_op, access_op, memory_op, block_op}
 use Rattle.wm_machine.specs.exact.ExpressionSteps.{at_next_op, deeper, after_op}
-use Rattle.wm_shortcuts.specs.exact.WholeOps.{GaveAs, TookAs, NumberGoes, IsNumber, LiesAt, OpGoes, IsOp, HasNumeric, OpUnder, WholeOp, class_row, first_read}
+use Rattle.wm_shortcuts.specs.exact.WholeOps.{GaveAs, TookAs, NumberGoes, IsNumber, LiesAt, OpGoes, IsOp, IsDrop, HasNumeric, OpUnder, WholeOp, class_row, first_read}
 use Rattle.wm_shortcuts.specs.declared.whole_ops.Read.{Read}
 use Rattle.wm_shortcuts.specs.declared.whole_ops.Took.{Took}
 use Rattle.wm_shortcuts.specs.declared.whole_ops.Took.TheVariants as took
@@ -46,6 +47,7 @@ use Rattle.std.specs.Prelude.{if◌then◌else◌}
 use Rattle.wm_syntax.specs.Profiles.{has, has_prefix}
 use Rattle.wm_syntax.specs.declared.profile.Feature.{Feature}
 use Rattle.wm_syntax.specs.declared.profile.Feature.TheVariants.{BulkMemory, Copies, LongIndex, Saturation}
+use Rattle.wm_machine.specs.declared.step.ops.TableOp.{TableOp}
 use Rattle.wm_machine.specs.declared.step.ops.TableOp.TheVariants as tables
 
 -- a slice in two
@@ -231,11 +233,26 @@ table_more p bytes i j k n left long within less next is rest =
     (subst (λ (b : Bool). OpGoes (if b then More (at.Table (tables.Call n) left) else Bad why.BadByte) (λ q. IsOp p q r o) r o) (sym long)
     (subst (λ m. IsOp p (at.Table (tables.Call n) left) (slice_range bytes m k) o) (sym next) rest)))
 
+-- the byte 00 of a table index, after which the op goes on or ends
+table_at : (p : Profile) (bytes : List ℕ) (i j k : ℕ) (t : TableOp) (o : Op) (left : ℕ) → i < length bytes → i < k → i + 1 ≡ j → slice_index bytes i ≡ 0x00
+    → OpGoes (after_table t) (λ q. IsOp p q (slice_range bytes j k) o) (slice_range bytes j k) o → IsOp p (at.Table t left) (slice_range bytes i k) o
+table_at p bytes i j k t o left within less next is rest =
+    subst (λ (y : List ℕ). IsOp p (at.Table t left) y o) (sym (range_first bytes i k within less))
+    (subst (λ c. IsOp p (at.Table t left) (c ∷ slice_range bytes (i + 1) k) o) (sym is)
+    (subst (λ m. OpGoes (after_table t) (λ q. IsOp p q (slice_range bytes m k) o) (slice_range bytes m k) o) (sym next) rest))
+
+table_ends : (p : Profile) (bytes : List ℕ) (i j : ℕ) (t : TableOp) (o : Op) (left : ℕ) → i < length bytes → i + 1 ≡ j → after_table t ≡ Done o → slice_index bytes i ≡ 0x00
+    → IsOp p (at.Table t left) (slice_range bytes i j) o
+table_ends p bytes i j t o left within next ends is =
+    table_at p bytes i (i + 1) j t o left within (omega arith) refl is
+    (subst (λ m. OpGoes (after_table t) (λ q. IsOp p q (slice_range bytes (i + 1) m) o) (slice_range bytes (i + 1) m) o) next
+    (subst (λ y. OpGoes y (λ q. IsOp p q (slice_range bytes (i + 1) (i + 1)) o) (slice_range bytes (i + 1) (i + 1)) o) (sym ends) (refl, none)))
+  where
+    none : slice_range bytes (i + 1) (i + 1) ≡ []
+    none = ap (λ n. take n (drop (i + 1) bytes)) (let e : (i + 1) - (i + 1) ≡ 0 = omega arith in e)
+
 pub table_of_one : (p : Profile) (bytes : List ℕ) (i j left : ℕ) → i < length bytes → i + 1 ≡ j → slice_index bytes i ≡ 0x00 → (n : ℕ) → IsOp p (at.Table (tables.Call n) left) (slice_range bytes i j) (call_op n)
-table_of_one p bytes i j left within next is n =
-    subst (λ m. IsOp p (at.Table (tables.Call n) left) (slice_range bytes i m) (call_op n)) next
-    (subst (λ (y : List ℕ). IsOp p (at.Table (tables.Call n) left) y (call_op n)) (sym (one_range bytes i within))
-    (subst (λ c. IsOp p (at.Table (tables.Call n) left) (c ∷ []) (call_op n)) (sym is) (refl, refl)))
+table_of_one p bytes i j left within next is n = table_ends p bytes i j (tables.Call n) (call_op n) left within next refl is
 
 pub table_of_five : (p : Profile) (bytes : List ℕ) (i : ℕ) → IsTrue (has p LongIndex) → i + 4 < length bytes → slice_index bytes i ≡ 0x80 → slice_index bytes (i + 1) ≡ 0x80 → slice_index bytes (i + 2) ≡ 0x80
     → slice_index bytes (i + 3) ≡ 0x80 → slice_index bytes (i + 4) ≡ 0x00 → (n : ℕ) → IsOp p (at.Table (tables.Call n) 4) (slice_range bytes i (i + 5)) (call_op n)
@@ -286,51 +303,113 @@ two_closed p bytes i k within next first second =
     subst (λ (y : List ℕ). IsOp p at.FirstZero y (memory_op memories.MemoryCopy)) (sym (range_first bytes i k (omega arith) (omega arith)))
     (subst (λ c. IsOp p at.FirstZero (c ∷ slice_range bytes (i + 1) k) (memory_op memories.MemoryCopy)) (sym first) (closed_at p bytes (i + 1) k memories.MemoryCopy within (omega arith) second))
 
--- the op behind FC: alone, or with its zeros
-either_feature : (p : Profile) (f : Feature) → f ≡ Saturation ⊎ f ≡ Copies → IsTrue (has p f) → IsTrue (has_prefix p)
+-- an op behind FC: alone, with its zeros, or with the index of a segment
+either_feature : (p : Profile) (f : Feature) → f ≡ Saturation ⊎ f ≡ Copies ⊎ f ≡ BulkMemory → IsTrue (has p f) → IsTrue (has_prefix p)
 either_feature p f (inl is) sure = ap (λ b. b || (has p Copies || has p BulkMemory)) (subst (λ g. IsTrue (has p g)) is sure) ∙ true-or (has p Copies || has p BulkMemory)
-either_feature p f (inr is) sure =
+either_feature p f (inr (inl is)) sure =
     ap (λ b. has p Saturation || (b || has p BulkMemory)) (subst (λ g. IsTrue (has p g)) is sure)
     ∙ (ap (λ b. has p Saturation || b) (true-or (has p BulkMemory)) ∙ or-true (has p Saturation))
+either_feature p f (inr (inr is)) sure =
+    ap (λ b. has p Saturation || (has p Copies || b)) (subst (λ g. IsTrue (has p g)) is sure)
+    ∙ (ap (λ b. has p Saturation || b) (or-true (has p Copies)) ∙ or-true (has p Saturation))
 
 row_under : (p : Profile) (code : ℕ) (row : OpClass) → slice_get classes code ≡ Some row → IsTrue (has p (class_feature row)) → row ≡ class_under p code
 unfolding class_under
 row_under p code row is sure = sym (ap (row_in p) is ∙ cond-true (has p (class_feature row)) row (left_out (class_feature row)) sure)
 
-module _ (p : Profile) (bytes : List ℕ) (i depth code : ℕ) (within : i + 1 < length bytes) (first : slice_index bytes i ≡ 0xFC) (same : code ≡ 0x100 + slice_index bytes (i + 1)) (small : code < 0x180) where
-  behind : (row : OpClass) (k : ℕ) (o : Op) → i + 1 < k → slice_get classes code ≡ Some row → class_feature row ≡ Saturation ⊎ class_feature row ≡ Copies → IsTrue (has p (class_feature row))
-      → OpGoes (class_step row) (λ r. IsOp p r (slice_range bytes (i + 2) k) o) (slice_range bytes (i + 2) k) o → IsOp p at.First (slice_range bytes i k) o
-  behind row k o less is feature sure rest =
-      prefixed p bytes i k row o within less (either_feature p (class_feature row) feature sure) first (omega arith) (row_under p code row is sure ∙ ap (class_under p) same) rest
+row_behind : (row : Option OpClass) (byte n : ℕ) → slice_get classes (0x100 + n) ≡ row → byte ≡ n → slice_get classes (0x100 + byte) ≡ row
+row_behind row byte n is same = ap (λ b. slice_get classes (0x100 + b)) same ∙ is
 
-  pub behind_saturation : (x : ASaturation) → HasNumeric code (numeric.Saturate x) → IsTrue (has p Saturation) → OpUnder p bytes i (i + 2) depth depth (op.Simple (simple.Numeric (numeric.Saturate x)))
-  behind_saturation x is sure = record {
+pub drops_data : (byte : ℕ) → byte ≡ 0x09 → IsDrop byte indexed.DataDrop
+drops_data byte is = (row_behind (Some (class.With (kinds.Index indexed.DataDrop))) byte 0x09 refl is, omega arith, refl, λ depth n. refl)
+
+pub drops_element : (byte : ℕ) → byte ≡ 0x0D → IsDrop byte indexed.ElemDrop
+drops_element byte is = (row_behind (Some (class.With (kinds.Index indexed.ElemDrop))) byte 0x0D refl is, omega arith, refl, λ depth n. refl)
+
+module _ (p : Profile) (bytes : List ℕ) (i depth : ℕ) (within : i + 1 < length bytes) (first : slice_index bytes i ≡ 0xFC) where
+  behind : (row : OpClass) (k : ℕ) (o : Op) → i + 1 < k → slice_get classes (0x100 + slice_index bytes (i + 1)) ≡ Some row → slice_index bytes (i + 1) < 0x80
+      → class_feature row ≡ Saturation ⊎ class_feature row ≡ Copies ⊎ class_feature row ≡ BulkMemory → IsTrue (has p (class_feature row))
+      → OpGoes (class_step row) (λ r. IsOp p r (slice_range bytes (i + 2) k) o) (slice_range bytes (i + 2) k) o → IsOp p at.First (slice_range bytes i k) o
+  behind row k o less is small feature sure rest =
+      prefixed p bytes i k row o within less (either_feature p (class_feature row) feature sure) first small (row_under p (0x100 + slice_index bytes (i + 1)) row is sure) rest
+
+  pub behind_saturation : (x : ASaturation) → HasNumeric (0x100 + slice_index bytes (i + 1)) (numeric.Saturate x) → slice_index bytes (i + 1) < 0x80 → IsTrue (has p Saturation)
+      → OpUnder p bytes i (i + 2) depth depth (op.Simple (simple.Numeric (numeric.Saturate x)))
+  behind_saturation x is small sure = record {
     some = omega arith;
     within = omega arith;
-    spelled = behind (class.Plain (op.Simple (simple.Numeric (numeric.Saturate x)))) (i + 2) (op.Simple (simple.Numeric (numeric.Saturate x))) (omega arith) is (inl refl) sure (refl, none);
+    spelled = behind (class.Plain (op.Simple (simple.Numeric (numeric.Saturate x)))) (i + 2) (op.Simple (simple.Numeric (numeric.Saturate x))) (omega arith) is small (inl refl) sure (refl, none);
     opens = refl;
   }
     where
       none : slice_range bytes (i + 2) (i + 2) ≡ []
       none = ap (λ n. take n (drop (i + 2) bytes)) (let e : (i + 2) - (i + 2) ≡ 0 = omega arith in e)
 
-  pub behind_fill : code ≡ 0x10B → IsTrue (has p Copies) → i + 2 < length bytes → slice_index bytes (i + 2) ≡ 0x00 → OpUnder p bytes i (i + 3) depth depth (memory_op memories.MemoryFill)
+  pub behind_fill : slice_index bytes (i + 1) ≡ 0x0B → IsTrue (has p Copies) → i + 2 < length bytes → slice_index bytes (i + 2) ≡ 0x00 → OpUnder p bytes i (i + 3) depth depth (memory_op memories.MemoryFill)
   behind_fill is sure more closed = record {
     some = omega arith;
     within = omega arith;
-    spelled = behind (class.With (kinds.Memory memories.MemoryFill)) (i + 3) (memory_op memories.MemoryFill) (omega arith) (ap (slice_get classes) is) (inr refl) sure (closed_at p bytes (i + 2) (i + 3) memories.MemoryFill more (omega arith) closed);
+    spelled = behind (class.With (kinds.Memory memories.MemoryFill)) (i + 3) (memory_op memories.MemoryFill) (omega arith)
+        (row_behind (Some (class.With (kinds.Memory memories.MemoryFill))) (slice_index bytes (i + 1)) 0x0B refl is) (omega arith) (inr (inl refl)) sure
+        (closed_at p bytes (i + 2) (i + 3) memories.MemoryFill more (omega arith) closed);
     opens = refl;
   }
 
-  pub behind_copy : code ≡ 0x10A → IsTrue (has p Copies) → i + 3 < length bytes → slice_index bytes (i + 2) ≡ 0x00 → slice_index bytes (i + 3) ≡ 0x00 → OpUnder p bytes i (i + 4) depth depth (memory_op memories.MemoryCopy)
-  behind_copy is sure more closed next =
-      let three : i + 3 ≡ (i + 2) + 1 = omega arith in record {
-        some = omega arith;
-        within = omega arith;
-        spelled = behind (class.With (kinds.Memory memories.MemoryCopy)) (i + 4) (memory_op memories.MemoryCopy) (omega arith) (ap (slice_get classes) is) (inr refl) sure
-            (two_closed p bytes (i + 2) (i + 4) (omega arith) (omega arith) closed (subst (λ n. slice_index bytes n ≡ 0x00) three next));
-        opens = refl;
-      }
+  pub behind_copy : slice_index bytes (i + 1) ≡ 0x0A → IsTrue (has p Copies) → i + 3 < length bytes → slice_index bytes (i + 2) ≡ 0x00 → slice_index bytes (i + 2 + 1) ≡ 0x00
+      → OpUnder p bytes i (i + 4) depth depth (memory_op memories.MemoryCopy)
+  behind_copy is sure more closed next = record {
+    some = omega arith;
+    within = omega arith;
+    spelled = behind (class.With (kinds.Memory memories.MemoryCopy)) (i + 4) (memory_op memories.MemoryCopy) (omega arith)
+        (row_behind (Some (class.With (kinds.Memory memories.MemoryCopy))) (slice_index bytes (i + 1)) 0x0A refl is) (omega arith) (inr (inl refl)) sure
+        (two_closed p bytes (i + 2) (i + 4) (omega arith) (omega arith) closed next);
+    opens = refl;
+  }
+
+  pub behind_table_copy : slice_index bytes (i + 1) ≡ 0x0E → IsTrue (has p BulkMemory) → i + 3 < length bytes → slice_index bytes (i + 2) ≡ 0x00 → slice_index bytes (i + 2 + 1) ≡ 0x00
+      → OpUnder p bytes i (i + 4) depth depth copy_table_op
+  behind_table_copy is sure more closed next = record {
+    some = omega arith;
+    within = omega arith;
+    spelled = behind (class.With kinds.TableCopy) (i + 4) copy_table_op (omega arith) (row_behind (Some (class.With kinds.TableCopy)) (slice_index bytes (i + 1)) 0x0E refl is) (omega arith) (inr (inr refl)) sure
+        (table_at p bytes (i + 2) (i + 2 + 1) (i + 4) tables.CopyTo copy_table_op 4 (omega arith) (omega arith) refl closed
+        (table_ends p bytes (i + 2 + 1) (i + 4) tables.CopyFrom copy_table_op 4 (omega arith) (omega arith) refl next));
+    opens = refl;
+  }
+
+  pub behind_drop : (x : Indexed) (next n : ℕ) → IsDrop (slice_index bytes (i + 1)) x → IsTrue (has p BulkMemory) → LiesAt (unsigned_push 32) bytes (i + 2) next n → OpUnder p bytes i next depth depth (index_op x n)
+  behind_drop x next n is sure lies = record {
+    some = omega arith;
+    within = lies.within;
+    spelled = behind (class.With (kinds.Index x)) next (index_op x n) (omega arith) is.0 is.1 (inr (inr is.2)) (subst (λ f. IsTrue (has p f)) (sym is.2) sure)
+        (number_ends p (unsigned_push 32) (at.Index x) (index_op x) (λ r c. refl) fresh (slice_range bytes (i + 2) next) n lies.spelled);
+    opens = is.3 depth n;
+  }
+
+  pub behind_memory_init : (middle n : ℕ) → slice_index bytes (i + 1) ≡ 0x08 → IsTrue (has p BulkMemory) → LiesAt (unsigned_push 32) bytes (i + 2) middle n → middle < length bytes → slice_index bytes middle ≡ 0x00
+      → OpUnder p bytes i (middle + 1) depth depth (init_op n)
+  behind_memory_init middle n is sure lies more closed = record {
+    some = omega arith;
+    within = omega arith;
+    spelled = behind (class.With kinds.MemoryInit) (middle + 1) (init_op n) (omega arith) (row_behind (Some (class.With kinds.MemoryInit)) (slice_index bytes (i + 1)) 0x08 refl is) (omega arith) (inr (inr refl)) sure
+        (subst (λ (y : List ℕ). IsOp p (at.InitSegment fresh) y (init_op n)) (sym (range_split bytes (i + 2) middle (middle + 1) (omega arith) (omega arith)))
+        (number_then p (unsigned_push 32) at.InitSegment at.InitMemory (λ r c. refl) fresh (slice_range bytes (i + 2) middle) (slice_range bytes middle (middle + 1)) n (init_op n) lies.spelled
+        (subst (λ (y : List ℕ). IsOp p (at.InitMemory n) y (init_op n)) (sym (one_range bytes middle more))
+        (subst (λ c. IsOp p (at.InitMemory n) (c ∷ []) (init_op n)) (sym closed) (refl, refl)))));
+    opens = refl;
+  }
+
+  pub behind_table_init : (middle n : ℕ) → slice_index bytes (i + 1) ≡ 0x0C → IsTrue (has p BulkMemory) → LiesAt (unsigned_push 32) bytes (i + 2) middle n → middle < length bytes → slice_index bytes middle ≡ 0x00
+      → OpUnder p bytes i (middle + 1) depth depth (init_table_op n)
+  behind_table_init middle n is sure lies more closed = record {
+    some = omega arith;
+    within = omega arith;
+    spelled = behind (class.With kinds.TableInit) (middle + 1) (init_table_op n) (omega arith) (row_behind (Some (class.With kinds.TableInit)) (slice_index bytes (i + 1)) 0x0C refl is) (omega arith) (inr (inr refl)) sure
+        (subst (λ (y : List ℕ). IsOp p (at.InitElement fresh) y (init_table_op n)) (sym (range_split bytes (i + 2) middle (middle + 1) (omega arith) (omega arith)))
+        (number_then p (unsigned_push 32) at.InitElement (λ v. at.Table (tables.Init v) 4) (λ r c. refl) fresh (slice_range bytes (i + 2) middle) (slice_range bytes middle (middle + 1)) n (init_table_op n) lies.spelled
+        (table_ends p bytes middle (middle + 1) (tables.Init n) (init_table_op n) 4 more refl refl closed)));
+    opens = refl;
+  }
 
 -- the bytes of a float
 more_32 : (p : Profile) (bytes : List ℕ) (i j k left low : ℕ) (o : Op) → i < length bytes → i < k → i + 1 ≡ j

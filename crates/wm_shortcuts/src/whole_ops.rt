@@ -5,7 +5,8 @@
 ghost use Rattle.std.specs.Prelude.{◌≡◌, ◌+◌, ◌<◌, ◌≤◌, ◌^◌, ℕ, IfSome, IsTrue, Some, length};
 ghost use Rattle.std.specs.Prelude.{slice_index, slice_range};
 ghost use Rattle.wm_syntax.specs.declared.profile.Profile.{Profile};
-ghost use Rattle.wm_syntax.specs.exact.Reading.{fresh};
+ghost use Rattle.wm_syntax.specs.Profiles.{has};
+ghost use Rattle.wm_syntax.specs.exact.Reading.{fresh, unsigned_push};
 ghost use Rattle.wm_machine.specs.declared.step.reading.Reading.TheVariants.{More};
 ghost use Rattle.wm_machine.specs.declared.step.ops.InOp.TheVariants.{BlockType, Const32, Table};
 ghost use Rattle.wm_machine.specs.declared.step.ops.TableOp.TheVariants.{Call};
@@ -13,14 +14,14 @@ ghost use Rattle.wm_machine.specs.declared.step.ops.InOp.TheVariants.{Const64, M
 ghost use Rattle.wm_machine.specs.exact.OpSteps.{call_op, fresh_index};
 ghost use Rattle.wm_syntax.specs.exact.OpShapes.{index_op};
 ghost use Rattle.wm_machine.specs.exact.ExpressionSteps.{after_op, at_next_op};
-ghost use Rattle.wm_shortcuts.specs.exact.WholeOps.{GaveAs, IsOp, OpFrom, OpUnder, RanTo, TookAs, WholeOp};
-ghost use Rattle.wm_shortcuts.specs.exact.WholeOps.{class_at, class_row, first_read};
+ghost use Rattle.wm_shortcuts.specs.exact.WholeOps.{GaveAs, HasNumeric, IsDrop, IsOp, LiesAt, OpFrom, OpUnder};
+ghost use Rattle.wm_shortcuts.specs.exact.WholeOps.{RanTo, TookAs, WholeOp, class_at, class_row, first_read};
 
 use crate::op_groups::{
     binary, comparison, conversion, float_binary, float_comparison, float_unary, narrow_load,
     narrow_store, saturation, sign_extension, unary,
 };
-use crate::whole_numbers::{s32_at, s64_at, u32_at};
+use crate::whole_numbers::{Whole, s32_at, s64_at, u32_at};
 use wm_machine::item::Item;
 use wm_machine::sink::Sink;
 use wm_machine::step::ops::{push_32, push_64};
@@ -33,7 +34,7 @@ use wm_syntax::instructions::op_class::LoadOrStore::{Load, Store};
 use wm_syntax::instructions::op_class::{
     BlockOp, Immediates, Indexed, LoadOrStore, MemoryOp, OpClass,
 };
-use wm_syntax::instructions::{LoadOp, MemArg, Numeric, Op, Simple, StoreOp};
+use wm_syntax::instructions::{LoadOp, MemArg, Numeric, Op, Saturation, Simple, StoreOp};
 use wm_syntax::profile::{Feature, Profile};
 use wm_syntax::types::ValType;
 use wm_syntax::why::Why;
@@ -267,36 +268,133 @@ fn memory(bytes: &[u8], at: usize, depth: u32, op: MemoryOp) -> Option<Read>
     read!(op.op(), at + 2, depth)
 }
 
-// Reads an instruction behind the byte FC whose number is one byte
+// Readers of ops behind the byte FC whose number is one byte. Each asks whether the profile has the op
+
 #[inline(always)]
-#[tactic(auto, using(crate::proofs::OpLists::behind_saturation))]
-fn prefixed(profile: Profile, bytes: &[u8], at: usize, depth: u32) -> Option<Read>
-    requires within { at + 1 < length bytes.now }
-    requires first { slice_index bytes.now at ≡ 0xFC }
-    ensures { IfSome result (λ r. OpUnder profile bytes.now at r.next depth r.depth r.op) }
+fn saturating(here: OpStart<'_>, op: Saturation) -> Option<Read>
+    requires within { here.at + 1 < length here.bytes.now }
+    requires first { slice_index here.bytes.now here.at ≡ 0xFC }
+    requires small { slice_index here.bytes.now (here.at + 1) < 0x80 }
+    requires code { HasNumeric (0x100 + slice_index here.bytes.now (here.at + 1)) (Numeric.Saturate op) }
+    ensures { IfSome result (OpFrom here.entry) }
 {
-    let code = 0x100 + u16::from(bytes[at + 1]);
-    let left = bytes.len() - at;
-    let (op, next) = match code {
-        0x100..=0x107 if profile.has(Feature::Saturation) => {
-            let op = Numeric::Saturate(saturation(code));
-            (Simple::Numeric(op), at + 2)
-        }
-        0x10A if profile.has(Feature::Copies) => {
-            if left < 4 || bytes[at + 2] != 0x00 || bytes[at + 3] != 0x00 {
-                return None;
-            }
-            (Simple::MemoryCopy, at + 4)
-        }
-        0x10B if profile.has(Feature::Copies) => {
-            if left < 3 || bytes[at + 2] != 0x00 {
-                return None;
-            }
-            (Simple::MemoryFill, at + 3)
-        }
-        _ => return None,
-    };
-    read!(Op::Simple(op), next, depth)
+    if !here.profile.has(Feature::Saturation) {
+        return None;
+    }
+    let op = Numeric::Saturate(op);
+    read!(Op::Simple(Simple::Numeric(op)), here.at + 2, here.depth)
+}
+
+#[inline(always)]
+fn memory_fill(here: OpStart<'_>) -> Option<Read>
+    requires within { here.at + 1 < length here.bytes.now }
+    requires first { slice_index here.bytes.now here.at ≡ 0xFC }
+    requires code { slice_index here.bytes.now (here.at + 1) ≡ 0x0B }
+    ensures { IfSome result (OpFrom here.entry) }
+{
+    if !here.profile.has(Feature::Copies) || !has_zero(here.bytes, here.at + 2) {
+        return None;
+    }
+    read!(Op::Simple(Simple::MemoryFill), here.at + 3, here.depth)
+}
+
+#[inline(always)]
+fn memory_copy(here: OpStart<'_>) -> Option<Read>
+    requires within { here.at + 1 < length here.bytes.now }
+    requires first { slice_index here.bytes.now here.at ≡ 0xFC }
+    requires code { slice_index here.bytes.now (here.at + 1) ≡ 0x0A }
+    ensures { IfSome result (OpFrom here.entry) }
+{
+    if !here.profile.has(Feature::Copies) || !has_zeros(here.bytes, here.at + 2) {
+        return None;
+    }
+    read!(Op::Simple(Simple::MemoryCopy), here.at + 4, here.depth)
+}
+
+#[inline(always)]
+fn table_copy(here: OpStart<'_>) -> Option<Read>
+    requires within { here.at + 1 < length here.bytes.now }
+    requires first { slice_index here.bytes.now here.at ≡ 0xFC }
+    requires code { slice_index here.bytes.now (here.at + 1) ≡ 0x0E }
+    ensures { IfSome result (OpFrom here.entry) }
+{
+    if !here.profile.has(Feature::BulkMemory) || !has_zeros(here.bytes, here.at + 2) {
+        return None;
+    }
+    read!(Op::Simple(Simple::TableCopy), here.at + 4, here.depth)
+}
+
+#[inline(always)]
+fn segment_drop(here: OpStart<'_>, op: Indexed) -> Option<Read>
+    requires within { here.at + 1 < length here.bytes.now }
+    requires first { slice_index here.bytes.now here.at ≡ 0xFC }
+    requires code { IsDrop (slice_index here.bytes.now (here.at + 1)) op }
+    ensures { IfSome result (OpFrom here.entry) }
+{
+    let segment = segment_index(here)?;
+    read!(op.op(segment.value), segment.next, here.depth)
+}
+
+#[inline(always)]
+fn memory_init(here: OpStart<'_>) -> Option<Read>
+    requires within { here.at + 1 < length here.bytes.now }
+    requires first { slice_index here.bytes.now here.at ≡ 0xFC }
+    requires code { slice_index here.bytes.now (here.at + 1) ≡ 0x08 }
+    ensures { IfSome result (OpFrom here.entry) }
+{
+    let segment = segment_index(here)?;
+    if !has_zero(here.bytes, segment.next) {
+        return None;
+    }
+    let op = Simple::MemoryInit(segment.value);
+    read!(Op::Simple(op), segment.next + 1, here.depth)
+}
+
+#[inline(always)]
+fn table_init(here: OpStart<'_>) -> Option<Read>
+    requires within { here.at + 1 < length here.bytes.now }
+    requires first { slice_index here.bytes.now here.at ≡ 0xFC }
+    requires code { slice_index here.bytes.now (here.at + 1) ≡ 0x0C }
+    ensures { IfSome result (OpFrom here.entry) }
+{
+    let segment = segment_index(here)?;
+    if !has_zero(here.bytes, segment.next) {
+        return None;
+    }
+    let op = Simple::TableInit(segment.value);
+    read!(Op::Simple(op), segment.next + 1, here.depth)
+}
+
+// Reads the index of a segment behind the two bytes of an op of bulk memory
+#[inline(always)]
+fn segment_index(here: OpStart<'_>) -> Option<Whole<u32>>
+    requires { here.at + 1 < length here.bytes.now }
+    ensures feature { IfSome result (λ w. IsTrue (has here.entry.profile.now Feature.BulkMemory)) }
+    ensures index { IfSome result (λ w.
+        LiesAt (unsigned_push 32) here.entry.bytes.now (here.entry.at + 2) w.next w.value) }
+{
+    let at = here.at + 2;
+    if !here.profile.has(Feature::BulkMemory) || at >= here.bytes.len() {
+        return None;
+    }
+    u32_at(here.bytes, at)
+}
+
+// Whether a byte 00 stands at the index `at`
+#[inline(always)]
+fn has_zero(bytes: &[u8], at: usize) -> bool
+    ensures { IsTrue result → (at < length bytes.now) × (slice_index bytes.now at ≡ 0x00) }
+{
+    at < bytes.len() && bytes[at] == 0x00
+}
+
+// Whether two bytes 00 stand from the index `at` on
+#[inline(always)]
+fn has_zeros(bytes: &[u8], at: usize) -> bool
+    ensures { IsTrue result → (at + 1 < length bytes.now) × (slice_index bytes.now at ≡ 0x00)
+        × (slice_index bytes.now (at + 1) ≡ 0x00) }
+{
+    at < bytes.len() && bytes.len() - at > 1 && bytes[at] == 0x00 && bytes[at + 1] == 0x00
 }
 
 // Readers of float constants. The profile has them
@@ -352,9 +450,9 @@ fn give<S: Sink>(sink: &mut S, room: usize, read: Option<Read>) -> Took
     }
 }
 
-// Takes the instruction behind the byte FC at the index `at`. Out of line, since it is rare
+// Takes the op behind the byte FC at the index `at`. Out of line, since it is rare
 #[inline(never)]
-#[tactic(auto, using(crate::proofs::OpLists::gave_took))]
+#[tactic(auto, using(crate::proofs::OpLists::gave_took, crate::proofs::OpLists::drops_data, crate::proofs::OpLists::drops_element))]
 fn take_prefixed<S: Sink>(
     sink: &mut S,
     profile: &Profile,
@@ -367,7 +465,27 @@ fn take_prefixed<S: Sink>(
     requires first { slice_index bytes.now at ≡ 0xFC }
     ensures { TookAs S.after profile.now (S.held sink.old) bytes.now at depth room result (S.held sink.new) }
 {
-    give(sink, room, prefixed(*profile, bytes, at, depth))
+    let here = OpStart {
+        profile,
+        bytes,
+        at,
+        depth,
+    };
+    let number = bytes[at + 1];
+    match number {
+        0x00..=0x07 => {
+            let op = saturation(0x100 + u16::from(number));
+            give(sink, room, saturating(here, op))
+        }
+        0x08 => give(sink, room, memory_init(here)),
+        0x09 => give(sink, room, segment_drop(here, Indexed::DataDrop)),
+        0x0A => give(sink, room, memory_copy(here)),
+        0x0B => give(sink, room, memory_fill(here)),
+        0x0C => give(sink, room, table_init(here)),
+        0x0D => give(sink, room, segment_drop(here, Indexed::ElemDrop)),
+        0x0E => give(sink, room, table_copy(here)),
+        _ => Took::Left,
+    }
 }
 
 // Takes the op on floats at the index `at`

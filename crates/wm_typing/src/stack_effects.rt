@@ -109,7 +109,11 @@ fn apply(stacks: &mut Stacks, params: &[ValType], given: Option<ValType>) -> Res
 // Does as `apply`, but takes one operand after another.
 #[tactic(auto, using(crate::proofs::Costs::take_adds))]
 #[inline(always)]
-fn apply_singly(stacks: &mut Stacks, params: &[ValType], given: Option<ValType>) -> Result<(), Why>
+pub(crate) fn apply_singly(
+    stacks: &mut Stacks,
+    params: &[ValType],
+    given: Option<ValType>,
+) -> Result<(), Why>
     requires { CanAct stacks.old }
     ensures { Acts (drive_fixed params.now (option_to_list given) stacks.old) 3 1 stacks.old stacks.new
         result }

@@ -1,5 +1,5 @@
 -- Exact answers about numbers and ops that lie whole in a list of bytes, as the slow path reads them.
-use Rattle.std.specs.Prelude.{◌≡◌, ◌≢◌, ◌≤◌, ◌<◌, ℕ, ◌^◌, nat_lt, if◌then◌else◌, ℤ, pos, ◌-ℤ◌, List, [], ◌∷◌}
+use Rattle.std.specs.Prelude.{◌≡◌, ◌≢◌, ◌≤◌, ◌<◌, ◌+◌, ℕ, ◌^◌, nat_lt, if◌then◌else◌, ℤ, pos, ◌-ℤ◌, List, [], ◌∷◌}
 use Rattle.std.specs.Prelude.{length, slice_range, Result, Ok, Err, Option, Some, None as Nothing, slice_get, slice_index}
 use Rattle.wm_syntax.specs.declared.why.Why.{Why}
 use Rattle.wm_syntax.specs.declared.why.Why.TheVariants as why
@@ -31,10 +31,12 @@ use Rattle.wm_syntax.specs.declared.instructions.Simple.TheVariants as s
 use Rattle.wm_syntax.specs.declared.instructions.Op.TheVariants as op
 use Rattle.wm_syntax.specs.declared.instructions.op_class.OpClass.{OpClass}
 use Rattle.wm_syntax.specs.declared.instructions.op_class.OpClass.TheVariants.{Plain, With}
-use Rattle.wm_syntax.specs.declared.instructions.op_class.Immediates.TheVariants.{Access}
-use Rattle.wm_syntax.specs.declared.profile.Feature.TheVariants.{Base}
+use Rattle.wm_syntax.specs.declared.instructions.op_class.Immediates.TheVariants.{Access, Index}
+use Rattle.wm_syntax.specs.declared.profile.Feature.TheVariants.{Base, BulkMemory}
 use Rattle.wm_syntax.specs.exact.ByteTable.{class_feature, classes, row_in}
+use Rattle.wm_syntax.specs.declared.instructions.op_class.Indexed.{Indexed}
 use Rattle.wm_syntax.specs.declared.instructions.op_class.LoadOrStore.{LoadOrStore}
+use Rattle.wm_syntax.specs.exact.OpShapes.{index_op}
 use Rattle.wm_machine.specs.exact.OpSteps.{class_step, op_push}
 use Rattle.wm_machine.specs.exact.ExpressionSteps.{at_next_op, after_op}
 
@@ -77,6 +79,11 @@ class_row p byte = row_in p (slice_get classes byte)
 -- the row of the byte has this numeric op, whichever profiles have it
 abbrev pub HasNumeric : ℕ → Numeric → Type 0
 HasNumeric byte o = slice_get classes byte ≡ Some (Plain (op.Simple (s.Numeric o)))
+
+-- The byte behind FC begins this op on a segment, which bulk memory has. An index follows it.
+abbrev pub IsDrop : ℕ → Indexed → Type 0
+IsDrop byte i = (slice_get classes (0x100 + byte) ≡ Some (With (Index i))) × (byte < 0x80)
+    × (class_feature (With (Index i)) ≡ BulkMemory) × ((depth n : ℕ) → after_op depth (index_op i n) ≡ at_next_op depth)
 
 -- the byte begins this load or store under every profile
 abbrev pub HasAccess : ℕ → LoadOrStore → Type 0
