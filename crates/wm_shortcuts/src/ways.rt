@@ -17,10 +17,11 @@ use crate::limited::limited_member;
 use crate::segments::segment_head;
 use crate::short_bytes::short;
 use wm_machine::machine::member::{InEntry, InMember, SectionKind};
-use wm_machine::machine::{Machine, refusal_of};
+use wm_machine::machine::{InCustom, Machine, refusal_of};
 use wm_machine::sink::Sink;
 use wm_machine::step::expressions::InExpression;
 use wm_machine::step::values::{InGlobalType, InLimits, InTableType, InValue};
+use wm_syntax::numbers::Num32;
 use wm_syntax::profile::Profile;
 use wm_syntax::why::Why;
 
@@ -103,7 +104,11 @@ enum Way {
 fn way_of(machine: Machine, next: u8) -> Way {
     let (of, at) = match machine {
         Machine::Section { of, at, .. } => (of, at),
-        Machine::Custom { .. } => return Way::Pass,
+        Machine::Custom {
+            part: InCustom::Skip,
+            ..
+        } => return Way::Pass,
+        Machine::Custom { .. } => return Way::One,
         // `frames` does not take these, or not to their end: the header after its first byte, custom sections, and the
         // size of a start section, whose last byte takes the slow path
         Machine::Header(1..) | Machine::CustomSize { .. } | Machine::Refused(_) => return Way::One,
@@ -120,8 +125,7 @@ fn way_of(machine: Machine, next: u8) -> Way {
         SectionKind::Table | SectionKind::Memory => way_in_limited(at),
         SectionKind::Global => way_in_globals(at),
         SectionKind::Export => Way::Export,
-        SectionKind::Function => Way::Indices,
-        SectionKind::Element => way_in_elements(at),
+        SectionKind::Function | SectionKind::Element => way_in_indices(at),
         SectionKind::Code => way_in_code(at),
         SectionKind::Segment => way_in_data(at),
         _ => Way::One,
@@ -147,10 +151,18 @@ fn way_in_globals(at: InMember) -> Way {
     }
 }
 
-fn way_in_elements(at: InMember) -> Way {
+// Inside an index no fast path applies
+fn way_at_index(number: Num32) -> Way {
+    if !number.is_new() {
+        return Way::One;
+    }
+    Way::Indices
+}
+
+fn way_in_indices(at: InMember) -> Way {
     match at {
         InMember::SegmentStart { .. } => Way::Segment,
-        InMember::Index { .. } => Way::Indices,
+        InMember::Index { number, .. } => way_at_index(number),
         _ => Way::One,
     }
 }
@@ -174,7 +186,7 @@ fn way_in_code(at: InMember) -> Way {
     };
     match at {
         InExpression::Op { .. } => Way::Ops,
-        InExpression::Label { .. } => Way::Indices,
+        InExpression::Label { number, .. } => way_at_index(number),
         _ => Way::One,
     }
 }
