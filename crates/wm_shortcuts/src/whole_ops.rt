@@ -488,10 +488,11 @@ fn take_prefixed<S: Sink>(
     }
 }
 
-// Takes the op on floats at the index `at`
+// Takes the op at the index `at` if it is on floats or behind the byte FC. `take_uncommon` calls this alone: of two
+// functions, the results would pass through its memory
 #[inline(never)]
 #[tactic(auto, using(crate::proofs::OpLists::gave_took))]
-fn take_float<S: Sink>(
+fn take_rare<S: Sink>(
     sink: &mut S,
     profile: &Profile,
     bytes: &[u8],
@@ -502,6 +503,9 @@ fn take_float<S: Sink>(
     requires { at + 1 < length bytes.now }
     ensures { TookAs S.after profile.now (S.held sink.old) bytes.now at depth room result (S.held sink.new) }
 {
+    if bytes[at] == 0xFC {
+        return take_prefixed(sink, profile, bytes, at, depth, room);
+    }
     if !profile.has(Feature::Floats) {
         return Took::Left;
     }
@@ -645,8 +649,7 @@ fn take_uncommon<S: Sink>(
             }
             give(sink, room, numeric(here, SignExtend(sign_extension(byte))))
         }
-        0xFC => take_prefixed(sink, profile, bytes, at, depth, room),
-        _ => take_float(sink, profile, bytes, at, depth, room),
+        _ => take_rare(sink, profile, bytes, at, depth, room),
     }
 }
 

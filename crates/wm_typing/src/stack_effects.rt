@@ -205,13 +205,15 @@ pub(crate) fn apply_two(
         stacks.new result }
 {
     if stacks.replace_two_fast(under, top, entry_given(given)) {
-        Ok(())
-    } else {
-        apply_two_apart(stacks, under, top, given)
+        return Ok(());
+    }
+    match given {
+        Some(ty) if ty.feature() != Feature::Base => apply_two_apart(stacks, under, top, given),
+        _ => apply_two_singly(stacks, under, top, given),
     }
 }
 
-// The slow path of `apply_two`. Two floats that become one of their type mostly take a fast path of their own
+// The slow path of `apply_two` to a float. Two floats that become one of their type mostly take a fast path of their own
 // here.
 #[inline(never)]
 fn apply_two_apart(
