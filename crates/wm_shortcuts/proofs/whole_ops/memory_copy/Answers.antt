@@ -1,4 +1,4 @@
-use Rattle.std.proofs.Common.{◌+◌, arith, refl, subst, sym}
+use Rattle.std.proofs.Common.{arith, refl, sym}
 use Rattle.wm_shortcuts.proofs.OpLists.{behind_copy}
 use Rattle.wm_shortcuts.proofs.whole_ops.memory_copy.Goals as goal
 

@@ -1,4 +1,4 @@
-use Rattle.std.proofs.Common.{◌+◌, arith, refl, sym}
+use Rattle.std.proofs.Common.{refl, sym}
 use Rattle.wm_shortcuts.proofs.OpLists.{behind_fill}
 use Rattle.wm_shortcuts.proofs.whole_ops.memory_fill.Goals as goal
 

@@ -1,4 +1,4 @@
-use Rattle.std.proofs.Common.{◌+◌, arith, refl, subst, sym}
+use Rattle.std.proofs.Common.{refl}
 use Rattle.wm_shortcuts.proofs.OpLists.{behind_memory_init}
 use Rattle.wm_shortcuts.proofs.whole_ops.memory_init.Goals as goal
 

@@ -1,4 +1,4 @@
-use Rattle.std.proofs.Common.{◌+◌, arith, refl, sym}
+use Rattle.std.proofs.Common.{sym}
 use Rattle.wm_shortcuts.proofs.OpLists.{behind_saturation}
 use Rattle.wm_shortcuts.proofs.whole_ops.saturating.Goals as goal
 

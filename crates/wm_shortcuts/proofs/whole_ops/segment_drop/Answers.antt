@@ -1,4 +1,4 @@
-use Rattle.std.proofs.Common.{◌+◌, arith, refl, subst, sym}
+use Rattle.std.proofs.Common.{subst, sym}
 use Rattle.wm_shortcuts.specs.exact.WholeOps.{OpUnder}
 use Rattle.wm_shortcuts.proofs.OpLists.{behind_drop}
 use Rattle.wm_shortcuts.proofs.whole_ops.segment_drop.Goals as goal

@@ -1,4 +1,4 @@
-use Rattle.std.proofs.Common.{◌+◌, arith, refl, subst, sym}
+use Rattle.std.proofs.Common.{refl}
 use Rattle.wm_shortcuts.proofs.OpLists.{behind_table_init}
 use Rattle.wm_shortcuts.proofs.whole_ops.table_init.Goals as goal
 
