@@ -3,7 +3,7 @@
 ghost use Rattle.std.specs.Prelude.{◌≡◌, ◌≢◌, ◌+◌, ◌++◌, ◌∷◌, [], None, Some, Ok, Err, IfErr, IfOk};
 ghost use Rattle.std.specs.Prelude.{List, MatchResult, OnErr, OnOk, false, true};
 ghost use Rattle.wm_syntax.specs.inner.Building.{Place, at, placed, start};
-ghost use Rattle.wm_syntax.specs.Instructions.{Instructions};
+ghost use Rattle.wm_syntax.specs.Instructions.{Instructions, names_segment};
 ghost use Rattle.wm_syntax.specs.Lengths.{op_len};
 ghost use Rattle.wm_syntax.specs.inner.Builders.{fits, fits_list, is_else, is_first, last_of, last_set};
 ghost use Rattle.wm_syntax.specs.inner.Builders.{next_left, next_open, next_ops};
@@ -80,13 +80,15 @@ fn ends_in_else(ops: &[Op]) -> bool
     }
 }
 
+// Appends an op with this encoded length. `names` is whether it names a data segment: a constant in most calls.
 #[inline(always)]
-fn push(ops: &mut SizedOps, op: Op, len: u64) -> Result<(), BodyFault>
-    requires { len ≡ op_len op }
+fn push(ops: &mut SizedOps, op: Op, len: u64, names: bool) -> Result<(), BodyFault>
+    requires len { len ≡ op_len op }
+    requires names { names ≡ names_segment op }
     ensures ok { OnOk result (ops.new ≡ ops.old ++ op ∷ []) }
     ensures err { IfErr result (λ fault. (fault ≡ BodyFault.Memory) × (ops.new ≡ ops.old)) }
 {
-    match ops.push(op, len) {
+    match ops.push(op, len, names) {
         Ok(()) => Ok(()),
         Err(_) => Err(BodyFault::Memory),
     }
@@ -101,7 +103,7 @@ fn push_end(ops: &mut SizedOps) -> Result<(), BodyFault>
         ops.end_else();
         Ok(())
     } else {
-        push(ops, Op::End, 1)
+        push(ops, Op::End, 1, false)
     }
 }
 
@@ -112,7 +114,8 @@ fn push_open(
     op: Op,
     opened: Opened,
 ) -> Result<(), BodyFault>
-    requires { op_len op ≡ 2 }
+    requires len { op_len op ≡ 2 }
+    requires names { names_segment op ≡ false }
     ensures ok { OnOk result ((ops.new ≡ ops.old ++ op ∷ [])
         × (begun.new.items ≡ begun.old.items ++ opened ∷ [])) }
     ensures err { IfErr result (λ fault. (fault ≡ BodyFault.Memory) × (ops.new ≡ ops.old)
@@ -122,7 +125,7 @@ fn push_open(
         return Err(BodyFault::Memory);
     }
     // its own byte, and its block type's
-    match push(ops, op, 2) {
+    match push(ops, op, 2, false) {
         Ok(()) => Ok(()),
         Err(fault) => {
             begun.pop();
@@ -147,8 +150,11 @@ fn push_op(
     ensures fits { fits begun.old.items left.old op ≡ true → result ≢ Err BodyFault.Unbalanced }
     ensures unbalanced { fits begun.old.items left.old op ≡ false → result ≡ Err BodyFault.Unbalanced }
 {
-    match op {
-        Op::Simple(_) if *left == 0 => push(ops, op, op_len(&op)),
+    match &op {
+        Op::Simple(simple) if *left == 0 => {
+            let (len, names) = simple_len(simple);
+            push(ops, op, len, names)
+        }
         _ => push_any(ops, begun, left, op),
     }
 }
@@ -165,8 +171,8 @@ fn push_fast(ops: &mut SizedOps, left: u64, op: &Op) -> bool
 {
     match op {
         Op::Simple(simple) if left == 0 => {
-            let (len, names_segment) = simple_len(simple);
-            !names_segment && ops.push_fast(op, len)
+            let (len, names) = simple_len(simple);
+            !names && ops.push_fast(op, len)
         }
         _ => false,
     }
@@ -191,11 +197,11 @@ fn push_any(
         return Err(BodyFault::Unbalanced);
     }
     match op {
-        Op::Simple(_) => push(ops, op, op_len(&op)),
+        Op::Simple(_) => push(ops, op, op_len(&op), op.names_segment()),
         Op::Block(_) | Op::Loop(_) => push_open(ops, begun, op, Opened::List),
         Op::If(_) => push_open(ops, begun, op, Opened::First),
         Op::Else => {
-            push(ops, op, 1)?;
+            push(ops, op, 1, false)?;
             let last = begun.len() - 1;
             begun[last] = Opened::Second;
             Ok(())
@@ -206,12 +212,12 @@ fn push_any(
             Ok(())
         }
         Op::BrTable(count) => {
-            push(ops, op, op_len(&op))?;
+            push(ops, op, op_len(&op), false)?;
             *left = u64::from(count) + 1;
             Ok(())
         }
         Op::Label(_) => {
-            push(ops, op, op_len(&op))?;
+            push(ops, op, op_len(&op), false)?;
             *left -= 1;
             Ok(())
         }

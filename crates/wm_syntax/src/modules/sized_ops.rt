@@ -84,10 +84,11 @@ impl SizedOps {
         self.names_segment
     }
 
-    /// Appends an op with this encoded length.
+    /// Appends an op with this encoded length. `names` is whether it names a data segment.
     #[inline(always)]
-    pub(crate) fn push(&mut self, op: Op, len: u64) -> Result<(), AllocError>
-        requires { len ≡ op_len op }
+    pub(crate) fn push(&mut self, op: Op, len: u64, names: bool) -> Result<(), AllocError>
+        requires len { len ≡ op_len op }
+        requires names { names ≡ names_segment op }
         ensures ok { OnOk result (self.new ≡ self.old ++ op ∷ []) }
         ensures err { OnErr result (self.new ≡ self.old) }
     {
@@ -97,7 +98,7 @@ impl SizedOps {
         }
         self.ops.push_reserved(op);
         self.len = self.len.saturating_add(len);
-        if op.names_segment() {
+        if names {
             self.names_segment = true;
         }
         Ok(())
