@@ -488,11 +488,11 @@ fn take_prefixed<S: Sink>(
     }
 }
 
-// Takes the op at the index `at` if it is on floats or behind the byte FC. `take_uncommon` calls this alone: of two
-// functions, the results would pass through its memory
+// Takes the op at the index `at` if it is on floats. `take_uncommon` calls this alone: of two functions, the results
+// would pass through its memory
 #[inline(never)]
 #[tactic(auto, using(crate::proofs::OpLists::gave_took))]
-fn take_rare<S: Sink>(
+fn take_float<S: Sink>(
     sink: &mut S,
     profile: &Profile,
     bytes: &[u8],
@@ -503,9 +503,6 @@ fn take_rare<S: Sink>(
     requires { at + 1 < length bytes.now }
     ensures { TookAs S.after profile.now (S.held sink.old) bytes.now at depth room result (S.held sink.new) }
 {
-    if bytes[at] == 0xFC {
-        return take_prefixed(sink, profile, bytes, at, depth, room);
-    }
     if !profile.has(Feature::Floats) {
         return Took::Left;
     }
@@ -649,7 +646,27 @@ fn take_uncommon<S: Sink>(
             }
             give(sink, room, numeric(here, SignExtend(sign_extension(byte))))
         }
-        _ => take_rare(sink, profile, bytes, at, depth, room),
+        _ => take_float(sink, profile, bytes, at, depth, room),
+    }
+}
+
+// Takes an op that is not one of the most common
+#[inline(always)]
+fn take_other<S: Sink>(
+    sink: &mut S,
+    profile: &Profile,
+    bytes: &[u8],
+    at: usize,
+    depth: u32,
+    room: usize,
+) -> Took
+    requires { at + 1 < length bytes.now }
+    ensures { TookAs S.after profile.now (S.held sink.old) bytes.now at depth room result (S.held sink.new) }
+{
+    if bytes[at] == 0xFC {
+        take_prefixed(sink, profile, bytes, at, depth, room)
+    } else {
+        take_uncommon(sink, profile, bytes, at, depth, room)
     }
 }
 
@@ -696,7 +713,7 @@ pub(crate) fn take_ops<S: Sink>(
             Took::Refused(why, next) => return refused(next, depth, why),
         }
         // called here and not from `take_common`, whose result then does not lie in memory
-        match take_uncommon(sink, &profile, bytes, used, depth, room) {
+        match take_other(sink, &profile, bytes, used, depth, room) {
             Took::Next(next, inside) => {
                 used = next;
                 depth = inside;
