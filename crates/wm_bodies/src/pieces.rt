@@ -9,6 +9,7 @@ ghost use Rattle.wm_bodies.specs.inner.Pieces as flat;
 ghost use Rattle.wm_bodies.specs.exact.Reading as reading;
 ghost use Rattle.wm_bodies.specs.inner.Views.{Reads};
 ghost use Rattle.wm_syntax.specs.declared.instructions.Simple.TheVariants as Simple;
+ghost use Rattle.wm_syntax.specs.declared.instructions.op_class.Indexed.TheVariants as Indexed;
 
 use crate::blocks::OpenBlocks;
 use crate::identifiers::{Names, Scope};
@@ -125,41 +126,43 @@ fn closes<'a>(
     }
 }
 
-/// Reads the operand of an instruction that has one, or none for the instructions on a whole memory.
-fn operand<'a>(
-    profile: Profile,
+/// Reads the index of an instruction with one, but not of a `br_table`.
+fn indexed<'a>(
     scope: &Scope,
     blocks: &OpenBlocks,
-    kind: Immediates,
+    op: Indexed,
     text: &'a [u8],
 ) -> Result<(Piece<'a>, &'a [u8]), TextFault>
-    requires { HasOperand kind }
+    requires { op ≢ Indexed.BrTable }
     ensures fits { IfOk result (λ x. FitsPiece (piece_of x.0)) }
     ensures read { Reads (λ x. (piece_of x.0, lexed x.1.now)) result
-        (reading.kind_at (call_use_at profile (names_of scope.now.names.now)) profile (scope_of scope.now)
-        blocks.now kind (lexed text.now)) }
+        (reading.index_at (scope_of scope.now) blocks.now op (lexed text.now)) }
+{
+    let (simple, rest) = match op {
+        Indexed::Br => with(Simple::Br, label(blocks, text)?),
+        Indexed::BrIf => with(Simple::BrIf, label(blocks, text)?),
+        Indexed::BrTable => unreachable!(),
+        Indexed::Call => with(Simple::Call, index(&scope.names.functions, text)?),
+        Indexed::LocalGet => with(Simple::LocalGet, index(&scope.locals, text)?),
+        Indexed::LocalSet => with(Simple::LocalSet, index(&scope.locals, text)?),
+        Indexed::LocalTee => with(Simple::LocalTee, index(&scope.locals, text)?),
+        Indexed::GlobalGet => with(Simple::GlobalGet, index(&scope.names.globals, text)?),
+        Indexed::GlobalSet => with(Simple::GlobalSet, index(&scope.names.globals, text)?),
+        Indexed::DataDrop => with(Simple::DataDrop, natural(text)?),
+        Indexed::ElemDrop => with(Simple::ElemDrop, natural(text)?),
+    };
+    Ok((Piece::Plain(simple), rest))
+}
+
+/// Reads the operand of an integer constant, and of an instruction on a whole memory, table or segment. Some of these
+/// have none.
+fn operand(kind: Immediates, text: &[u8]) -> Result<(Piece, &[u8]), TextFault>
+    requires { HasOperand kind }
+    ensures fits { IfOk result (λ x. FitsPiece (piece_of x.0)) }
+    ensures read { Reads (λ x. (piece_of x.0, lexed x.1.now)) result (reading.operand_at kind (lexed text.now)) }
 {
     let (simple, rest) = match kind {
-        Immediates::Index(Indexed::Br) => with(Simple::Br, label(blocks, text)?),
-        Immediates::Index(Indexed::BrIf) => with(Simple::BrIf, label(blocks, text)?),
-        Immediates::Index(Indexed::Call) => with(
-            Simple::Call,
-            index(&scope.names.functions, text)?,
-        ),
-        Immediates::Index(Indexed::LocalGet) => with(Simple::LocalGet, index(&scope.locals, text)?),
-        Immediates::Index(Indexed::LocalSet) => with(Simple::LocalSet, index(&scope.locals, text)?),
-        Immediates::Index(Indexed::LocalTee) => with(Simple::LocalTee, index(&scope.locals, text)?),
-        Immediates::Index(Indexed::GlobalGet) => with(
-            Simple::GlobalGet,
-            index(&scope.names.globals, text)?,
-        ),
-        Immediates::Index(Indexed::GlobalSet) => with(
-            Simple::GlobalSet,
-            index(&scope.names.globals, text)?,
-        ),
-        Immediates::Index(Indexed::DataDrop) => with(Simple::DataDrop, natural(text)?),
         Immediates::MemoryInit => with(Simple::MemoryInit, natural(text)?),
-        Immediates::Index(Indexed::ElemDrop) => with(Simple::ElemDrop, natural(text)?),
         Immediates::TableInit => with(Simple::TableInit, natural(text)?),
         Immediates::TableCopy => (Simple::TableCopy, text),
         Immediates::Memory(MemoryOp::MemorySize) => (Simple::MemorySize, text),
@@ -245,12 +248,13 @@ pub(crate) fn read_piece<'a>(
         OpClass::Plain(_) => Err(refuse(TextWhy::UnknownWord, here)),
         OpClass::With(Immediates::Block(opening)) => opens(profile, opening, text),
         OpClass::With(Immediates::Index(Indexed::BrTable)) => table(alloc, blocks, text),
+        OpClass::With(Immediates::Index(op)) => indexed(scope, blocks, op, text),
         OpClass::With(Immediates::CallIndirect) => indirect(alloc, profile, scope.names, text),
         OpClass::With(kind) => match kind {
             Immediates::F32Const | Immediates::F64Const | Immediates::Access(_) => {
                 float_or_access(alloc, kind, text)
             }
-            _ => operand(profile, scope, blocks, kind, text),
+            _ => operand(kind, text),
         },
         OpClass::Float => Err(refuse(TextWhy::Float, here)),
         OpClass::None => Err(no_instruction(profile, word, here)),

@@ -14,6 +14,7 @@ use Rattle.wm_syntax.specs.declared.instructions.Op.TheVariants as op
 use Rattle.wm_syntax.specs.declared.instructions.op_class.Immediates.{Immediates}
 use Rattle.wm_syntax.specs.declared.instructions.op_class.LoadOrStore.TheVariants as accesses
 use Rattle.wm_syntax.specs.declared.instructions.op_class.MemoryOp.TheVariants as memory
+use Rattle.wm_syntax.specs.declared.instructions.op_class.Indexed.{Indexed}
 use Rattle.wm_syntax.specs.declared.instructions.op_class.Indexed.TheVariants as indexed
 use Rattle.wm_syntax.specs.declared.instructions.op_class.Immediates.TheVariants as k
 use Rattle.wm_syntax.specs.declared.instructions.op_class.OpClass.{OpClass}
@@ -231,6 +232,33 @@ simple_at f r k = made (λ x. plain (f x)) (r k)
 abbrev pub opens_at : Profile → BlockOp → Reader Piece
 opens_at p o k = made (λ x. opens o x.0 x.1) (then_at id_at (block_type_at p) k)
 
+-- The reader of the immediate of an instruction with one number.
+abbrev pub index_at : Scope → Opened → Indexed → Reader Piece
+index_at sc bs indexed.Br = simple_at s.Br (atom_at (index_of (labels bs)))
+index_at sc bs indexed.BrIf = simple_at s.BrIf (atom_at (index_of (labels bs)))
+index_at sc bs indexed.BrTable = table_at (labels bs)
+index_at sc bs indexed.Call = simple_at s.Call (atom_at (index_of sc.names.functions))
+index_at sc bs indexed.LocalGet = simple_at s.LocalGet (atom_at (index_of sc.locals))
+index_at sc bs indexed.LocalSet = simple_at s.LocalSet (atom_at (index_of sc.locals))
+index_at sc bs indexed.LocalTee = simple_at s.LocalTee (atom_at (index_of sc.locals))
+index_at sc bs indexed.GlobalGet = simple_at s.GlobalGet (atom_at (index_of sc.names.globals))
+index_at sc bs indexed.GlobalSet = simple_at s.GlobalSet (atom_at (index_of sc.names.globals))
+index_at sc bs indexed.DataDrop = simple_at s.DataDrop (atom_at unsigned_of)
+index_at sc bs indexed.ElemDrop = simple_at s.ElemDrop (atom_at unsigned_of)
+
+-- The reader of the operand of an integer constant, and of an instruction on a whole memory, table or segment.
+abbrev pub operand_at : Immediates → Reader Piece
+operand_at k.MemoryInit = simple_at s.MemoryInit (atom_at unsigned_of)
+operand_at k.TableInit = simple_at s.TableInit (atom_at unsigned_of)
+operand_at k.TableCopy = λ t. Some (plain s.TableCopy, t)
+operand_at (k.Memory memory.MemorySize) = λ t. Some (plain s.MemorySize, t)
+operand_at (k.Memory memory.MemoryGrow) = λ t. Some (plain s.MemoryGrow, t)
+operand_at (k.Memory memory.MemoryCopy) = λ t. Some (plain s.MemoryCopy, t)
+operand_at (k.Memory memory.MemoryFill) = λ t. Some (plain s.MemoryFill, t)
+operand_at k.I32Const = simple_at s.I32Const (atom_at (integer_of 32))
+operand_at k.I64Const = simple_at s.I64Const (atom_at (integer_of 64))
+operand_at _ = λ t. None
+
 -- The reader of the operand of a float constant, a load or a store.
 abbrev pub float_or_access_at : Immediates → Reader Piece
 float_or_access_at k.F32Const = simple_at s.F32Const (atom_at (float_of float.F32))
@@ -243,30 +271,12 @@ float_or_access_at _ = λ t. None
 module _ (use_at : Reader ℕ) where
   abbrev pub kind_at : Profile → Scope → Opened → Immediates → Reader Piece
   kind_at p sc bs (k.Block o) = opens_at p o
-  kind_at p sc bs (k.Index indexed.Br) = simple_at s.Br (atom_at (index_of (labels bs)))
-  kind_at p sc bs (k.Index indexed.BrIf) = simple_at s.BrIf (atom_at (index_of (labels bs)))
-  kind_at p sc bs (k.Index indexed.BrTable) = table_at (labels bs)
-  kind_at p sc bs (k.Index indexed.Call) = simple_at s.Call (atom_at (index_of sc.names.functions))
+  kind_at p sc bs (k.Index o) = index_at sc bs o
   kind_at p sc bs k.CallIndirect = simple_at s.CallIndirect use_at
-  kind_at p sc bs (k.Index indexed.LocalGet) = simple_at s.LocalGet (atom_at (index_of sc.locals))
-  kind_at p sc bs (k.Index indexed.LocalSet) = simple_at s.LocalSet (atom_at (index_of sc.locals))
-  kind_at p sc bs (k.Index indexed.LocalTee) = simple_at s.LocalTee (atom_at (index_of sc.locals))
-  kind_at p sc bs (k.Index indexed.GlobalGet) = simple_at s.GlobalGet (atom_at (index_of sc.names.globals))
-  kind_at p sc bs (k.Index indexed.GlobalSet) = simple_at s.GlobalSet (atom_at (index_of sc.names.globals))
-  kind_at p sc bs (k.Index indexed.DataDrop) = simple_at s.DataDrop (atom_at unsigned_of)
-  kind_at p sc bs k.MemoryInit = simple_at s.MemoryInit (atom_at unsigned_of)
-  kind_at p sc bs (k.Index indexed.ElemDrop) = simple_at s.ElemDrop (atom_at unsigned_of)
-  kind_at p sc bs k.TableInit = simple_at s.TableInit (atom_at unsigned_of)
-  kind_at p sc bs k.TableCopy = λ k. Some (plain s.TableCopy, k)
-  kind_at p sc bs (k.Memory memory.MemorySize) = λ k. Some (plain s.MemorySize, k)
-  kind_at p sc bs (k.Memory memory.MemoryGrow) = λ k. Some (plain s.MemoryGrow, k)
-  kind_at p sc bs (k.Memory memory.MemoryCopy) = λ k. Some (plain s.MemoryCopy, k)
-  kind_at p sc bs (k.Memory memory.MemoryFill) = λ k. Some (plain s.MemoryFill, k)
-  kind_at p sc bs k.I32Const = simple_at s.I32Const (atom_at (integer_of 32))
-  kind_at p sc bs k.I64Const = simple_at s.I64Const (atom_at (integer_of 64))
   kind_at p sc bs k.F32Const = float_or_access_at k.F32Const
   kind_at p sc bs k.F64Const = float_or_access_at k.F64Const
   kind_at p sc bs (k.Access a) = float_or_access_at (k.Access a)
+  kind_at p sc bs kind = operand_at kind
 
   abbrev pub class_at : Profile → Scope → Opened → OpClass → Reader Piece
   class_at p sc bs (class.Plain (op.Simple i)) = λ k. Some (plain i, k)

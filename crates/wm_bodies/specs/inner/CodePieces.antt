@@ -3,7 +3,6 @@ use Rattle.std.specs.Prelude.{◌<◌, ◌^◌, length}
 use Rattle.wm_bodies.specs.declared.pieces.Piece.{Piece as Code}
 use Rattle.wm_bodies.specs.declared.pieces.Piece.TheVariants as p
 use Rattle.wm_syntax.specs.declared.instructions.op_class.Immediates.{Immediates}
-use Rattle.wm_syntax.specs.declared.instructions.op_class.Indexed.TheVariants as indexed
 use Rattle.wm_syntax.specs.declared.instructions.op_class.Immediates.TheVariants as k
 use Rattle.wm_bodies.specs.inner.Ids.{id_of}
 use Rattle.wm_bodies.specs.inner.Pieces.{Piece, plain, jump, opens, middle, closes}
@@ -18,7 +17,7 @@ piece_of p.Closes = closes
 -- `operand` reads what follows the keyword of an instruction with these immediates.
 abbrev pub HasOperand : Immediates → Type 0
 HasOperand (k.Block o) = ⊥
-HasOperand (k.Index indexed.BrTable) = ⊥
+HasOperand (k.Index o) = ⊥
 HasOperand k.CallIndirect = ⊥
 HasOperand k.F32Const = ⊥
 HasOperand k.F64Const = ⊥
