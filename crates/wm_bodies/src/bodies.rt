@@ -41,7 +41,7 @@ fn push(builder: &mut BodyBuilder, op: Op) -> Result<(), TextFault>
     ensures memory { IfErr result (λ e. e.why ≡ Memory) }
     ensures taken { OnOk result (place_after builder.old (op ∷ []) ≡ Some builder.new) }
 {
-    match builder.push(op) {
+    match builder.push_borrowed(&op) {
         Ok(()) => Ok(()),
         Err(BodyFault::Memory) => Err(TextFault::MEMORY),
         Err(BodyFault::Unbalanced) => unreachable!(),
@@ -97,8 +97,26 @@ fn is_if(opening: BlockOp) -> bool
     matches!(opening, BlockOp::If)
 }
 
-/// Appends a piece that may come next. After an error the body is unspecified.
+/// Appends a piece that may come next. After an error the body is unspecified. Most pieces are instructions. The others
+/// are taken out of line, so that their results need no memory here.
+#[inline(always)]
 fn add<'a>(body: &mut OpenBody<'a>, piece: Piece<'a>) -> Result<(), TextFault>
+    requires fits { FitsPiece (piece_of piece) }
+    requires stands { CanTake body.old.builder (flat.piece_ops (piece_of piece)) }
+    ensures memory { IfErr result (λ e. e.why ≡ Memory) }
+    ensures ops { OnOk result (place_after body.old.builder (flat.piece_ops (piece_of piece.entry))
+        ≡ Some body.new.builder) }
+    ensures blocks { OnOk result (body.new.blocks ≡ flat.after body.old.blocks (piece_of piece.entry)) }
+{
+    match piece {
+        Piece::Plain(simple) => push_simple(&mut body.builder, simple),
+        _ => add_any(body, piece),
+    }
+}
+
+/// Does as `add`.
+#[inline(never)]
+fn add_any<'a>(body: &mut OpenBody<'a>, piece: Piece<'a>) -> Result<(), TextFault>
     requires fits { FitsPiece (piece_of piece) }
     requires stands { CanTake body.old.builder (flat.piece_ops (piece_of piece)) }
     ensures memory { IfErr result (λ e. e.why ≡ Memory) }

@@ -138,20 +138,18 @@ fn indexed<'a>(
     ensures read { Reads (λ x. (piece_of x.0, lexed x.1.now)) result
         (reading.index_at (scope_of scope.now) blocks.now op (lexed text.now)) }
 {
-    let (simple, rest) = match op {
-        Indexed::Br => with(Simple::Br, label(blocks, text)?),
-        Indexed::BrIf => with(Simple::BrIf, label(blocks, text)?),
+    let (number, rest) = match op {
+        Indexed::Br | Indexed::BrIf => label(blocks, text)?,
         Indexed::BrTable => unreachable!(),
-        Indexed::Call => with(Simple::Call, index(&scope.names.functions, text)?),
-        Indexed::LocalGet => with(Simple::LocalGet, index(&scope.locals, text)?),
-        Indexed::LocalSet => with(Simple::LocalSet, index(&scope.locals, text)?),
-        Indexed::LocalTee => with(Simple::LocalTee, index(&scope.locals, text)?),
-        Indexed::GlobalGet => with(Simple::GlobalGet, index(&scope.names.globals, text)?),
-        Indexed::GlobalSet => with(Simple::GlobalSet, index(&scope.names.globals, text)?),
-        Indexed::DataDrop => with(Simple::DataDrop, natural(text)?),
-        Indexed::ElemDrop => with(Simple::ElemDrop, natural(text)?),
+        Indexed::Call => index(&scope.names.functions, text)?,
+        Indexed::LocalGet | Indexed::LocalSet | Indexed::LocalTee => index(&scope.locals, text)?,
+        Indexed::GlobalGet | Indexed::GlobalSet => index(&scope.names.globals, text)?,
+        Indexed::DataDrop | Indexed::ElemDrop => natural(text)?,
     };
-    Ok((Piece::Plain(simple), rest))
+    match op.op(number) {
+        Op::Simple(simple) => Ok((Piece::Plain(simple), rest)),
+        _ => unreachable!(),
+    }
 }
 
 /// Reads the operand of an integer constant, and of an instruction on a whole memory, table or segment. Some of these

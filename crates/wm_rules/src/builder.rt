@@ -444,7 +444,7 @@ impl Builder {
                 return self.end_body(body);
             }
         }
-        match self.body.push(*op) {
+        match self.body.push_borrowed(op) {
             Ok(()) => Ok(()),
             Err(BodyFault::Memory) => Err(Why::Memory),
             Err(BodyFault::Unbalanced) => {

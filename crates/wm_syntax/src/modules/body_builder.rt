@@ -49,8 +49,8 @@ impl fmt::Display for BodyFault {
 impl Error for BodyFault {}
 
 // Whether an op is allowed in the innermost open list.
-fn fits_list(begun: &[Opened], op: Op) -> bool
-    ensures { result ≡ fits_list begun.now op }
+fn fits_list(begun: &[Opened], op: &Op) -> bool
+    ensures { result ≡ fits_list begun.now op.now }
 {
     match op {
         Op::Else => begun.last() == Some(&Opened::First),
@@ -61,8 +61,8 @@ fn fits_list(begun: &[Opened], op: Op) -> bool
 }
 
 // Whether an op is allowed while `left` labels of a br_table are still to come.
-fn fits(begun: &[Opened], left: u64, op: Op) -> bool
-    ensures { result ≡ fits begun.now left op }
+fn fits(begun: &[Opened], left: u64, op: &Op) -> bool
+    ensures { result ≡ fits begun.now left op.now }
 {
     if left == 0 {
         fits_list(begun, op)
@@ -80,12 +80,13 @@ fn ends_in_else(ops: &[Op]) -> bool
     }
 }
 
-// Appends an op with this encoded length. `names` is whether it names a data segment: a constant in most calls.
+// Appends an op with this encoded length. `names` is whether it names a data segment: a constant in most calls. The op
+// is borrowed, since a copy would go through memory.
 #[inline(always)]
-fn push(ops: &mut SizedOps, op: Op, len: u64, names: bool) -> Result<(), BodyFault>
-    requires len { len ≡ op_len op }
-    requires names { names ≡ names_segment op }
-    ensures ok { OnOk result (ops.new ≡ ops.old ++ op ∷ []) }
+fn push(ops: &mut SizedOps, op: &Op, len: u64, names: bool) -> Result<(), BodyFault>
+    requires len { len ≡ op_len op.now }
+    requires names { names ≡ names_segment op.now }
+    ensures ok { OnOk result (ops.new ≡ ops.old ++ op.now ∷ []) }
     ensures err { IfErr result (λ fault. (fault ≡ BodyFault.Memory) × (ops.new ≡ ops.old)) }
 {
     match ops.push(op, len, names) {
@@ -103,7 +104,7 @@ fn push_end(ops: &mut SizedOps) -> Result<(), BodyFault>
         ops.end_else();
         Ok(())
     } else {
-        push(ops, Op::End, 1, false)
+        push(ops, &Op::End, 1, false)
     }
 }
 
@@ -111,12 +112,12 @@ fn push_end(ops: &mut SizedOps) -> Result<(), BodyFault>
 fn push_open(
     ops: &mut SizedOps,
     begun: &mut Vec<Opened>,
-    op: Op,
+    op: &Op,
     opened: Opened,
 ) -> Result<(), BodyFault>
-    requires len { op_len op ≡ 2 }
-    requires names { names_segment op ≡ false }
-    ensures ok { OnOk result ((ops.new ≡ ops.old ++ op ∷ [])
+    requires len { op_len op.now ≡ 2 }
+    requires names { names_segment op.now ≡ false }
+    ensures ok { OnOk result ((ops.new ≡ ops.old ++ op.now ∷ [])
         × (begun.new.items ≡ begun.old.items ++ opened ∷ [])) }
     ensures err { IfErr result (λ fault. (fault ≡ BodyFault.Memory) × (ops.new ≡ ops.old)
         × (begun.new.items ≡ begun.old.items)) }
@@ -131,31 +132,6 @@ fn push_open(
             begun.pop();
             Err(fault)
         }
-    }
-}
-
-// Takes an op if it is allowed. Most ops are instructions without a list, outside of a br_table. They take a
-// fast path inline, where the kind of the op is known at each call.
-#[inline(always)]
-fn push_op(
-    ops: &mut SizedOps,
-    begun: &mut Vec<Opened>,
-    left: &mut u64,
-    op: Op,
-) -> Result<(), BodyFault>
-    ensures ok { OnOk result ((ops.new ≡ next_ops op ops.old)
-        × (begun.new.items ≡ next_open op begun.old.items) × (left.new ≡ next_left op left.old)) }
-    ensures err { OnErr result ((ops.new ≡ ops.old) × (begun.new.items ≡ begun.old.items)
-        × (left.new ≡ left.old)) }
-    ensures fits { fits begun.old.items left.old op ≡ true → result ≢ Err BodyFault.Unbalanced }
-    ensures unbalanced { fits begun.old.items left.old op ≡ false → result ≡ Err BodyFault.Unbalanced }
-{
-    match &op {
-        Op::Simple(simple) if *left == 0 => {
-            let (len, names) = simple_len(simple);
-            push(ops, op, len, names)
-        }
-        _ => push_any(ops, begun, left, op),
     }
 }
 
@@ -178,26 +154,26 @@ fn push_fast(ops: &mut SizedOps, left: u64, op: &Op) -> bool
     }
 }
 
-// The slow path for any op, out of line.
+// Takes an op if it is allowed. Out of line, since most ops take the fast path.
 #[inline(never)]
 fn push_any(
     ops: &mut SizedOps,
     begun: &mut Vec<Opened>,
     left: &mut u64,
-    op: Op,
+    op: &Op,
 ) -> Result<(), BodyFault>
-    ensures ok { OnOk result ((ops.new ≡ next_ops op ops.old)
-        × (begun.new.items ≡ next_open op begun.old.items) × (left.new ≡ next_left op left.old)) }
+    ensures ok { OnOk result ((ops.new ≡ next_ops op.now ops.old)
+        × (begun.new.items ≡ next_open op.now begun.old.items) × (left.new ≡ next_left op.now left.old)) }
     ensures err { OnErr result ((ops.new ≡ ops.old) × (begun.new.items ≡ begun.old.items)
         × (left.new ≡ left.old)) }
-    ensures fits { fits begun.old.items left.old op ≡ true → result ≢ Err BodyFault.Unbalanced }
-    ensures unbalanced { fits begun.old.items left.old op ≡ false → result ≡ Err BodyFault.Unbalanced }
+    ensures fits { fits begun.old.items left.old op.now ≡ true → result ≢ Err BodyFault.Unbalanced }
+    ensures unbalanced { fits begun.old.items left.old op.now ≡ false → result ≡ Err BodyFault.Unbalanced }
 {
     if !fits(begun, *left, op) {
         return Err(BodyFault::Unbalanced);
     }
     match op {
-        Op::Simple(_) => push(ops, op, op_len(&op), op.names_segment()),
+        Op::Simple(_) => push(ops, op, op_len(op), op.names_segment()),
         Op::Block(_) | Op::Loop(_) => push_open(ops, begun, op, Opened::List),
         Op::If(_) => push_open(ops, begun, op, Opened::First),
         Op::Else => {
@@ -212,12 +188,12 @@ fn push_any(
             Ok(())
         }
         Op::BrTable(count) => {
-            push(ops, op, op_len(&op), false)?;
-            *left = u64::from(count) + 1;
+            push(ops, op, op_len(op), false)?;
+            *left = u64::from(*count) + 1;
             Ok(())
         }
         Op::Label(_) => {
-            push(ops, op, op_len(&op), false)?;
+            push(ops, op, op_len(op), false)?;
             *left -= 1;
             Ok(())
         }
@@ -287,14 +263,24 @@ impl BodyBuilder {
 
     /// Takes one more op. Fails with `Unbalanced` if no body has ops that begin so, and with `Memory` if
     /// memory is refused. An error changes nothing.
-    #[inline(always)]
     pub fn push(&mut self, op: Op) -> Result<(), BodyFault>
         ensures ok { OnOk result (placed self.old op ≡ Some self.new) }
         ensures err { OnErr result (self.new ≡ self.old) }
         ensures stands { (p : Place) → placed self.old op ≡ Some p → result ≢ Err BodyFault.Unbalanced }
         ensures unbalanced { placed self.old op ≡ None → result ≡ Err BodyFault.Unbalanced }
     {
-        push_op(&mut self.ops, &mut self.begun, &mut self.left, op)
+        self.push_borrowed(&op)
+    }
+
+    /// Does as `push`, but borrows the op, since a copy would go through memory.
+    #[inline(always)]
+    pub fn push_borrowed(&mut self, op: &Op) -> Result<(), BodyFault>
+        ensures ok { OnOk result (placed self.old op.now ≡ Some self.new) }
+        ensures err { OnErr result (self.new ≡ self.old) }
+        ensures stands { (p : Place) → placed self.old op.now ≡ Some p → result ≢ Err BodyFault.Unbalanced }
+        ensures unbalanced { placed self.old op.now ≡ None → result ≡ Err BodyFault.Unbalanced }
+    {
+        push_any(&mut self.ops, &mut self.begun, &mut self.left, op)
     }
 
     /// Takes a borrowed instruction if it contains no list, no label of a br_table is due, and no memory is

@@ -84,19 +84,19 @@ impl SizedOps {
         self.names_segment
     }
 
-    /// Appends an op with this encoded length. `names` is whether it names a data segment.
+    /// Appends a borrowed op with this encoded length. `names` is whether it names a data segment.
     #[inline(always)]
-    pub(crate) fn push(&mut self, op: Op, len: u64, names: bool) -> Result<(), AllocError>
-        requires len { len ≡ op_len op }
-        requires names { names ≡ names_segment op }
-        ensures ok { OnOk result (self.new ≡ self.old ++ op ∷ []) }
+    pub(crate) fn push(&mut self, op: &Op, len: u64, names: bool) -> Result<(), AllocError>
+        requires len { len ≡ op_len op.now }
+        requires names { names ≡ names_segment op.now }
+        ensures ok { OnOk result (self.new ≡ self.old ++ op.now ∷ []) }
         ensures err { OnErr result (self.new ≡ self.old) }
     {
         // in two steps, so that no refused op is returned through memory
         if self.ops.len() >= self.ops.capacity() {
             self.ops.reserve(FEW)?;
         }
-        self.ops.push_reserved(op);
+        self.ops.push_reserved(*op);
         self.len = self.len.saturating_add(len);
         if names {
             self.names_segment = true;
