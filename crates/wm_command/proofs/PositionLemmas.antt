@@ -1,8 +1,8 @@
 -- Lemmas about the line of an offset: where it begins, and how the line feeds before it are counted.
-use Rattle.std.proofs.Common.{◌≡◌, ◌<◌, ◌∙◌, ℕ, ◌+◌, ◌==◌, Bool, false, List, [], ◌∷◌, ◌++◌, ap, arith, cond, drop, get_or, length, length-append, refl, subst, sym, take, ◌≤◌, ◌-◌}
+use Rattle.std.proofs.Common.{◌≡◌, ◌<◌, ◌∙◌, ℕ, ◌+◌, ◌==◌, ◌||◌, Bool, false, List, [], ◌∷◌, ◌++◌, ap, arith, cond, drop, get_or, length, length-append, refl, subst, sym, take, ◌≤◌, ◌-◌}
 use Rattle.std.specs.List.{filter, list_any}
 use Rattle.std.proofs.Math.Seq.{take-length}
-use Rattle.std.proofs.lemmas.List.{drop_more, length-drop, take-append-drop}
+use Rattle.std.proofs.lemmas.List.{drop-drop, drop_more, length-drop, take-append-drop}
 use Rattle.std.proofs.lemmas.List.Elements.{filter-append}
 use Rattle.std.proofs.lemmas.List.Folds.{list_any-append}
 use Rattle.wm_command.specs.Refused.{behind_last}
@@ -44,3 +44,21 @@ pub only_line : (bytes : List ℕ) (from : ℕ) → from ≤ 0 → list_any (λ 
 only_line bytes from le = subst (λ n. list_any (λ y. y == 10) (drop n bytes) ≡ false → behind_last 10 bytes ≡ drop n bytes) (zero_is from le) (behind_none 10 bytes) where
   zero_is : (n : ℕ) → n ≤ 0 → 0 ≡ n
   zero_is n le = omega (arith, le)
+
+-- Bytes of which none is counted have none that passes the test.
+none_counted : (test : ℕ → Bool) (xs : List ℕ) → length (filter test xs) ≡ 0 → list_any test xs ≡ false
+none_counted test [] is = refl
+none_counted test (x ∷ xs) is = grind (arith, none_counted test xs)
+
+span_joined : (test : ℕ → Bool) (bytes : List ℕ) (n m : ℕ) → length (filter test (take n (drop m bytes))) ≡ 0 → list_any test (drop (m + n) bytes) ≡ false
+    → list_any test (drop m bytes) ≡ false
+span_joined test bytes n m counted none =
+    ap (list_any test) (sym (take-append-drop n (drop m bytes))) ∙ list_any-append test (take n (drop m bytes)) (drop n (drop m bytes))
+    ∙ ap (λ b. b || list_any test (drop n (drop m bytes))) (none_counted test (take n (drop m bytes)) counted)
+    ∙ ap (list_any test) (drop-drop n m bytes) ∙ none
+
+-- A span of which no byte is counted is passed over: what nothing follows behind it, nothing follows before it.
+pub span_passed : (test : ℕ → Bool) (bytes : List ℕ) (m from : ℕ) → m ≤ from → length (filter test (take (from - m) (drop m bytes))) ≡ 0
+    → list_any test (drop from bytes) ≡ false → list_any test (drop m bytes) ≡ false
+span_passed test bytes m from le counted none =
+    span_joined test bytes (from - m) m counted (ap (λ z. list_any test (drop z bytes)) (omega (arith, le)) ∙ none)

@@ -78,6 +78,20 @@ enum Took {
     Refused(Why, usize),
 }
 
+// Goes on after an op, or ends the loop over ops.
+macro_rules! go_on {
+    ($took:expr, $used:ident, $depth:ident) => {
+        match $took {
+            Took::Next(next, inside) => {
+                $used = next;
+                $depth = inside;
+            }
+            Took::Left => break,
+            Took::Refused(why, next) => return refused(next, $depth, why),
+        }
+    };
+}
+
 /// The result for consecutive ops.
 #[derive(Clone, Copy)]
 pub(crate) struct Ran {
@@ -650,26 +664,6 @@ fn take_uncommon<S: Sink>(
     }
 }
 
-// Takes an op that is not one of the most common
-#[inline(always)]
-fn take_other<S: Sink>(
-    sink: &mut S,
-    profile: &Profile,
-    bytes: &[u8],
-    at: usize,
-    depth: u32,
-    room: usize,
-) -> Took
-    requires { at + 1 < length bytes.now }
-    ensures { TookAs S.after profile.now (S.held sink.old) bytes.now at depth room result (S.held sink.new) }
-{
-    if bytes[at] == 0xFC {
-        take_prefixed(sink, profile, bytes, at, depth, room)
-    } else {
-        take_uncommon(sink, profile, bytes, at, depth, room)
-    }
-}
-
 // The result after an op that the sink refused
 #[inline(always)]
 fn refused(used: usize, depth: u32, why: Why) -> Ran
@@ -712,15 +706,20 @@ pub(crate) fn take_ops<S: Sink>(
             Took::Left => {}
             Took::Refused(why, next) => return refused(next, depth, why),
         }
-        // called here and not from `take_common`, whose result then does not lie in memory
-        match take_other(sink, &profile, bytes, used, depth, room) {
-            Took::Next(next, inside) => {
-                used = next;
-                depth = inside;
-            }
-            Took::Left => break,
-            Took::Refused(why, place) => return refused(place, depth, why),
+        // called here, one by one, so that no result is copied
+        if bytes[used] == 0xFC {
+            go_on!(
+                take_prefixed(sink, &profile, bytes, used, depth, room),
+                used,
+                depth
+            );
+            continue;
         }
+        go_on!(
+            take_uncommon(sink, &profile, bytes, used, depth, room),
+            used,
+            depth
+        );
     }
     Ran {
         used: used as u32,

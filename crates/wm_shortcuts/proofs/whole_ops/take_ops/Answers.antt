@@ -16,14 +16,26 @@ loop-used-preserved-in-Next g c =
       ran = one_more c.loop-used.invariant.ran took.0 c.in-Next.next c.in-Next.inside (g.S.Sink.held c.take_common.new.sink) took.1 took.2 took.3;
     }
 
-pub loop-used-preserved : goal.loop-used-preserved
-loop-used-preserved g c =
-    let took = c.in-Next-take_other.ensures in
+pub loop-used-preserved-then-bytes-used : goal.loop-used-preserved-then-bytes-used
+loop-used-preserved-then-bytes-used g c =
+    let took = c.in-Next-take_prefixed.ensures in
     let l = c.loop-used in
     record {
       one = λ e. absurd (omega (arith, e));
       within = took.2;
       inside = took.1.within;
       ran = one_more (subst (λ h. OpsTaken g.S.Sink.after c.args.profile c.args.bytes.now c.args.room 0 c.args.start (g.S.Sink.held c.args.sink.now) l.used l.depth h) c.in-Left.ensures l.invariant.ran)
-          took.0 c.in-Next-take_other.next c.in-Next-take_other.inside (g.S.Sink.held c.take_other.new.sink) took.1 took.2 took.3;
+          took.0 c.in-Next-take_prefixed.next c.in-Next-take_prefixed.inside (g.S.Sink.held c.take_prefixed.new.sink) took.1 took.2 took.3;
+    }
+
+pub loop-used-preserved : goal.loop-used-preserved
+loop-used-preserved g c =
+    let took = c.in-Next-take_uncommon.ensures in
+    let l = c.loop-used in
+    record {
+      one = λ e. absurd (omega (arith, e));
+      within = took.2;
+      inside = took.1.within;
+      ran = one_more (subst (λ h. OpsTaken g.S.Sink.after c.args.profile c.args.bytes.now c.args.room 0 c.args.start (g.S.Sink.held c.args.sink.now) l.used l.depth h) c.in-Left.ensures l.invariant.ran)
+          took.0 c.in-Next-take_uncommon.next c.in-Next-take_uncommon.inside (g.S.Sink.held c.take_uncommon.new.sink) took.1 took.2 took.3;
     }
