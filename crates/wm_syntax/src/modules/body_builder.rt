@@ -8,8 +8,8 @@ ghost use Rattle.wm_syntax.specs.Lengths.{op_len};
 ghost use Rattle.wm_syntax.specs.inner.Builders.{fits, fits_list, is_else, is_first, last_of, last_set};
 ghost use Rattle.wm_syntax.specs.inner.Builders.{next_left, next_open, next_ops};
 
+use crate::instructions::Op;
 use crate::instructions::lengths::{op_len, simple_len};
-use crate::instructions::{Op, Simple};
 use crate::modules::body::Body;
 use crate::modules::sized_ops::{MOST_KEPT, SizedOps};
 use std::alloc::Global;
